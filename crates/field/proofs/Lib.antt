@@ -1,0 +1,4 @@
+pub mod Bounds
+pub mod Division
+pub mod Codes
+pub mod Runs

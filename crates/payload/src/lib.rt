@@ -1,0 +1,3 @@
+// The payload of the downstream PLOAM cell, 48 bytes, and of a frame's two cells.
+pub mod cell;
+pub mod fault;
