@@ -1,7 +1,7 @@
 -- A cell's 48 bytes, counted from 0: the frame bit in byte 0, four groups of grants and the message, each with its check byte.
-use Prim.Native.Nat.{ℕ, _+_, _%_, _/_}
+use Prim.Native.Nat.{ℕ, _+_, _-_, _%_, _/_}
 use mathlib.Core.Path.{_≡_}
-use mathlib.Core.Bool.{Bool, cond}
+use mathlib.Core.Bool.{Bool, cond, _&&_}
 use mathlib.Core.List.{List, [], _∷_, _++_, map}
 use lib.Dec.{eqb, ltb, leb}
 use lib.ListN.{length, getD}
@@ -12,13 +12,15 @@ use Rattle.std.specs.declared.option.Option.the-variants.{Some, None}
 use Rattle.std.specs.declared.result.Result.{Result}
 use Rattle.std.specs.declared.result.Result.the-variants.{Ok, Err}
 use Rattle.field.specs.declared.grant.Grant.{Grant}
+use Rattle.field.specs.declared.grants.Grants.{Grants as GrantRun}
 use Rattle.field.specs.Check.{checkOf}
 use Rattle.field.specs.Grant.{grantOf, codeOf}
-use Rattle.field.specs.Octets.{picked, grantsOf}
+use Rattle.field.specs.Octets.{grantsOf}
 use Rattle.message.specs.declared.downstream.Downstream.{Downstream}
 use Rattle.message.specs.declared.fault.MessageFault.{MessageFault}
 use Rattle.field.specs.Bytes.{at, then}
-use Rattle.message.specs.Downstream.{downstreamOf, bytesOf}
+use Rattle.message.specs.Downstream.{downstreamOf, bytesOf, flagByte}
+use Rattle.payload.specs.declared.contents.Contents.{Contents}
 use Rattle.payload.specs.declared.fault.Group.{Group}
 use Rattle.payload.specs.declared.fault.Group.the-variants.{First, Second, Third, Fourth}
 use Rattle.payload.specs.declared.fault.CheckFault.{CheckFault}
@@ -59,6 +61,56 @@ abbrev pub checkedOf : List ℕ → Result (Unit {0}) CheckFault
 checkedOf b =
     then (groupChecked First b) (λ _. then (groupChecked Second b) (λ _. then (groupChecked Third b) (λ _. then (groupChecked Fourth b) (λ _. messageChecked b))))
 
--- the grant of place x, 1 to 27: seven to a group, and a check byte after each group
-abbrev pub grantAt : ℕ → List ℕ → Grant
-grantAt k b = grantOf (at b (k + 3 + k / 7))
+-- a check fault and a message fault are faults of the cell
+abbrev pub byCheck : {A : Type 0} → Result A CheckFault → Result A CellFault
+byCheck (Ok x) = Ok x
+byCheck (Err e) = Err (Check e)
+
+abbrev pub byMessage : {A : Type 0} → Result A MessageFault → Result A CellFault
+byMessage (Ok x) = Ok x
+byMessage (Err e) = Err (Message e)
+
+-- the strict reading of 48 bytes: all check bytes first, then the message
+unfoldable pub readOf : List ℕ → Result Downstream CellFault
+readOf b = then (byCheck (checkedOf b)) (λ _. byMessage (downstreamOf (messagePart b)))
+
+-- the grant at place k, counted from 0: seven to a group, and a check byte after each group
+abbrev pub grantAt : List ℕ → ℕ → Grant
+grantAt b k = grantOf (at b (k + 3 + k / 7))
+
+-- the same, counted from 1 to 27
+abbrev pub grantIn : ℕ → List ℕ → Option Grant
+grantIn place b = cond (leb 1 place && leb place 27) (Some (grantAt b (place - 1))) None
+
+-- all 27
+unfoldable pub grantsIn : List ℕ → GrantRun 27
+grantsIn b = grantsOf 27 (map (grantAt b) (counting 0 27))
+
+-- the contents of a cell, or the first fault: the length, the check bytes in order, the message
+unfoldable pub cellOf : List ℕ → Result Contents CellFault
+cellOf b =
+    cond (eqb (length b) 48)
+    (then (readOf b) (λ message. Ok (record { first = firstOf b; grants = grantsIn b; message = message })))
+    (Err Length)
+
+-- the bytes of a cell from its frame bit, 27 codes and the message's twelve bytes; SYNC and BIP are 0
+-- each part is followed by its check byte, that of the last grants by the one of these and a zero byte
+abbrev pub assembled : Bool → (codes message : List ℕ) → List ℕ
+assembled first codes message =
+    (flagByte first ∷ 0 ∷ 0 ∷ [])
+    ++ (between 0 7 codes ++ checkOf (between 0 7 codes) ∷ [])
+    ++ (between 7 14 codes ++ checkOf (between 7 14 codes) ∷ [])
+    ++ (between 14 21 codes ++ checkOf (between 14 21 codes) ∷ [])
+    ++ (between 21 27 codes ++ checkOf (between 21 27 codes ++ 0 ∷ []) ∷ [])
+    ++ (message ++ checkOf message ∷ [])
+    ++ 0 ∷ []
+
+unfoldable pub cellBytes : Contents → List ℕ
+cellBytes c = assembled (c .first) (map codeOf (c .grants .places)) (bytesOf (c .message))
+
+-- a buffer of another length is refused and left as it was
+abbrev pub written : {E : Type 0} → (n : ℕ) → E → List ℕ → Result (Unit {0}) E
+written n fault out = cond (eqb (length out) n) (Ok tt) (Err fault)
+
+abbrev pub after : (n : ℕ) → (bytes out : List ℕ) → List ℕ
+after n bytes out = cond (eqb (length out) n) bytes out

@@ -1,2 +1,4 @@
 pub mod Fault
 pub mod Cell
+pub mod Frame
+pub mod Export

@@ -4,7 +4,8 @@ ghost use Prim.Native.Nat.{_%_};
 ghost use lib.ListN.{length};
 ghost use lib.Dec.{eqb};
 ghost use Rattle.std.specs.declared.result.Result.the-variants.{Ok, Err};
-ghost use Rattle.payload.specs.Cell.{firstOf, groupOf, messagePart};
+ghost use Rattle.message.specs.Downstream.{downstreamOf};
+ghost use Rattle.payload.specs.Cell.{firstOf, groupOf, messagePart, groupChecked, messageChecked, checkedOf, readOf, grantIn, grantsIn};
 use crate::fault::CellFault;
 use crate::fault::CellFromCheck;
 use crate::fault::CellFromMessage;
@@ -13,7 +14,9 @@ use crate::fault::Group;
 use field::check::check_byte;
 use field::check::check_byte_and_zero;
 use field::grant::Grant;
+use field::grants::Grants;
 use message::downstream::Downstream;
+use message::fault::MessageFault;
 
 #[derive(Clone, Copy)]
 pub struct Cell<'a> {
@@ -53,9 +56,94 @@ impl<'a> Cell<'a> {
 
     // The twelve bytes of the message, as they stand in the cell.
     pub fn message_bytes(&self) -> &'a [u8]
-        ensures { λ r. ⌜ now r ≡ messagePart (now (now (self .entry) .bytes)) ⌝ }
+        ensures value { λ r. ⌜ now r ≡ messagePart (now (now (self .entry) .bytes)) ⌝ }
+        ensures len { λ r. ⌜ length (now r) ≡ 12 ⌝ }
     {
         let whole = self.bytes;
         &whole[34..46]
+    }
+
+    // Whether a group's check byte fits; the others do not matter to it.
+    pub fn check_group(&self, group: Group) -> Result<(), CheckFault>
+        ensures { λ r. ⌜ r ≡ groupChecked group (now (now (self .entry) .bytes)) ⌝ }
+    {
+        let whole = self.bytes;
+        let grants = self.group(group);
+        let fits = match group {
+            Group::First => check_byte(grants) == whole[10],
+            Group::Second => check_byte(grants) == whole[18],
+            Group::Third => check_byte(grants) == whole[26],
+            Group::Fourth => check_byte_and_zero(grants) == whole[33],
+        };
+        if fits {
+            Ok(())
+        } else {
+            Err(CheckFault::Grants(group))
+        }
+    }
+
+    // Whether the message's check byte fits.
+    pub fn check_message(&self) -> Result<(), CheckFault>
+        ensures { λ r. ⌜ r ≡ messageChecked (now (now (self .entry) .bytes)) ⌝ }
+    {
+        let whole = self.bytes;
+        if check_byte(self.message_bytes()) == whole[46] {
+            Ok(())
+        } else {
+            Err(CheckFault::Message)
+        }
+    }
+
+    // Whether all five check bytes fit, or the first that does not.
+    pub fn check(&self) -> Result<(), CheckFault>
+        ensures { λ r. ⌜ r ≡ checkedOf (now (now (self .entry) .bytes)) ⌝ }
+    {
+        self.check_group(Group::First)?;
+        self.check_group(Group::Second)?;
+        self.check_group(Group::Third)?;
+        self.check_group(Group::Fourth)?;
+        self.check_message()
+    }
+
+    // The message, its check byte left aside.
+    pub fn message(&self) -> Result<Downstream, MessageFault>
+        ensures { λ r. ⌜ r ≡ downstreamOf (messagePart (now (now (self .entry) .bytes))) ⌝ }
+    {
+        match <&'a [u8; 12]>::try_from(self.message_bytes()) {
+            Ok(bytes) => Downstream::read(bytes),
+            Err(_) => unreachable(),
+        }
+    }
+
+    // The strict reading: the message, where all check bytes fit and it is one; the grants stay where they stand.
+    pub fn read(&self) -> Result<Downstream, CellFault>
+        ensures { λ r. ⌜ r ≡ readOf (now (now (self .entry) .bytes)) ⌝ }
+    {
+        self.check()?;
+        let message = self.message()?;
+        Ok(message)
+    }
+
+    // The grant at a place, counted from 1 to 27.
+    pub fn grant(&self, place: u8) -> Option<Grant>
+        ensures { λ r. ⌜ r ≡ grantIn place (now (now (self .entry) .bytes)) ⌝ }
+    {
+        if place < 1 || place > 27 {
+            return None;
+        }
+        let k = usize::from(place - 1);
+        Some(Grant::from_byte(self.bytes[k + 3 + k / 7]))
+    }
+
+    // All 27 grants.
+    pub fn grants(&self) -> Grants<27>
+        ensures { λ r. ⌜ r ≡ grantsIn (now (now (self .entry) .bytes)) ⌝ }
+    {
+        let whole = self.bytes;
+        let mut places = [Grant::Idle; 27];
+        for k in 0..27 {
+            places[k] = Grant::from_byte(whole[k + 3 + k / 7]);
+        }
+        Grants::new(places)
     }
 }

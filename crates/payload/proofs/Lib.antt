@@ -1,0 +1,3 @@
+pub mod Pieces
+pub mod CellAgain
+pub mod FrameAgain

@@ -1,0 +1,6 @@
+use borrow.Author.Needs.{needs}
+use Rattle.std.proofs.shelf.Parts.{take-putMid}
+use Rattle.payload.proofs.contents.write.put.Needs as need
+
+pub returns : need.returns
+returns g c = search (needs, take-putMid)
