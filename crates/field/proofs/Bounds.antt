@@ -130,3 +130,34 @@ minislot-long offset length h = part-long offset length (decLe 1 length) (decLe 
 
 pub minislot-parts : (m : Minislot) → minislotOf (m .offset) (m .length) ≡ Some m
 minislot-parts m = minislot-in (m .offset) (m .length) (m .some) (m .inside)
+
+-- A value has the number that it was made from.
+between-is : {low high n : ℕ} (d : Dec (low ≤ n)) (e : Dec (n ≤ high)) (x : Bounded low high) → between d e ≡ Some x → x .value ≡ n
+between-is (yes a) (yes b) x h = cc
+between-is (yes a) (no b) x h = cc
+between-is (no a) e x h = cc
+
+pub within-is : (low high n : ℕ) (x : Bounded low high) → within low high n ≡ Some x → x .value ≡ n
+unfolding within
+within-is low high n x h = between-is (decLe low n) (decLe n high) x h
+
+short-is : {n : ℕ} (e : Dec (n ≤ 32000)) (d : Delay) → short e ≡ Some d → d .bits ≡ n
+short-is (yes b) d h = cc
+short-is (no b) d h = cc
+
+pub delay-is : (n : ℕ) (d : Delay) → delayOf n ≡ Some d → d .bits ≡ n
+unfolding delayOf
+delay-is n d h = short-is (decLe n 32000) d h
+
+part-is : (offset length : ℕ) (d : Dec (1 ≤ length)) (e : Dec (offset + length ≤ 53)) (m : Minislot) → part offset length d e ≡ Some m → (m .offset ≡ offset) × (m .length ≡ length)
+part-is offset length (yes a) (yes b) m h = (cc, cc)
+part-is offset length (yes a) (no b) m h = (cc, cc)
+part-is offset length (no a) e m h = (cc, cc)
+
+pub minislot-is : (offset length : ℕ) (m : Minislot) → minislotOf offset length ≡ Some m → (m .offset ≡ offset) × (m .length ≡ length)
+unfolding minislotOf
+minislot-is offset length m h = part-is offset length (decLe 1 length) (decLe (offset + length) 53) m h
+
+pub capped-value : (high n : ℕ) → n ≤ high → capped high n .value ≡ n
+unfolding capped
+capped-value high n h = omega arith

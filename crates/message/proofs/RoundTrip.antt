@@ -1,23 +1,17 @@
 -- Reading undoes writing, message by message.
-use Prim.Native.Nat.{ℕ, _+_, _*_, _/_, _%_, _≤_, _<_}
+use Prim.Native.Nat.{ℕ, _+_, _*_, _/_, _%_, _≤_}
 use native.Mathlib.Omega.{arith}
-use mathlib.Core.Path.{_≡_, refl, sym, ap, _∙_}
+use mathlib.Core.Path.{_≡_, refl, sym}
 use mathlib.Core.Logic.{⊎-elim}
-use mathlib.Core.Bool.{Bool, true, false, cond, _&&_}
-use lib.Dec.{eqb, leb, ltb}
-use lib.ListN.{getD}
-use Rattle.std.specs.Options.{okOr}
-use Rattle.std.specs.declared.option.Option.the-variants.{Some, None}
-use Rattle.std.specs.declared.result.Result.{Result}
-use Rattle.std.specs.declared.result.Result.the-variants.{Ok, Err}
-use Rattle.std.proofs.shelf.Tests.{cases-eq, eq-eqb, ne-eqb, le-leb, le-ltb}
+use mathlib.Core.Bool.{Bool, true, false, cond}
+use lib.Dec.{eqb, ltb}
+use lib.ListN.{replicate}
+use Rattle.std.specs.declared.result.Result.the-variants.{Ok}
+use Rattle.std.proofs.shelf.Tests.{cases-eq, eq-eqb, ne-eqb, le-ltb}
 use Rattle.field.specs.declared.bounded.Bounded.{Bounded}
 use Rattle.field.specs.declared.delay.Delay.{Delay}
-use Rattle.field.specs.declared.number.Number.{Number}
-use Rattle.field.specs.Bounded.{within}
-use Rattle.field.specs.Delay.{delayOf}
-use Rattle.field.specs.Number.{capped}
 use Rattle.field.proofs.Bounds.{within-value, delay-bits, capped-is, minislot-parts}
+use Rattle.field.proofs.Numbers.{serial-again, word-again, one-onu, vendor-named, vendor-again}
 use Rattle.field.proofs.Runs.{octets-again}
 use Rattle.message.specs.declared.downstream.Address.{Address}
 use Rattle.message.specs.declared.downstream.Address.the-variants.{One, All}
@@ -49,25 +43,7 @@ use Rattle.message.specs.declared.downstream.Downstream.the-variants.{
 }
 use Rattle.message.specs.declared.fault.Field.{Field}
 use Rattle.message.specs.declared.fault.Field.the-variants.{DataCode, DataFlag, PloamCode, PloamFlag, ActiveFlag}
-use Rattle.message.specs.declared.fault.MessageFault.{MessageFault}
-use Rattle.field.specs.Bytes.{at, then, triple, tripleBytes, wordOf, wordBytes, serialOf, serialBytes}
-use Rattle.message.specs.Downstream.{Reading, directedOf, addressOf, addressByte, flagOf, flagByte, delayField, allocationOf, vendorOf, downstreamOf, bytesOf}
-
--- a serial number from its eight bytes
-number-again : (n : ℕ) → n ≤ 18446744073709551615 → n / 72057594037927936 % 256 * 72057594037927936 + n / 281474976710656 % 256 * 281474976710656 + n / 1099511627776 % 256 * 1099511627776 + n / 4294967296 % 256 * 4294967296 + n / 16777216 % 256 * 16777216 + n / 65536 % 256 * 65536 + n / 256 % 256 * 256 + n % 256 ≡ n
-number-again n h = omega arith
-
-pub serial-again : (a k f : ℕ) (x : Number 18446744073709551615) → serialOf (serialBytes a k f x) ≡ x
-serial-again a k f x = capped-is x _ (number-again (x .value) (x .high))
-
--- a count from its four bytes
-count-again : (n : ℕ) → n ≤ 4294967295 → n / 16777216 % 256 * 16777216 + n / 65536 % 256 * 65536 + n / 256 % 256 * 256 + n % 256 ≡ n
-count-again n h =
-    let a : n ≡ n / 256 * 256 + n % 256 = omega arith in
-    let b : n / 256 ≡ n / 65536 * 256 + n / 256 % 256 = omega arith in
-    let c : n / 65536 ≡ n / 16777216 * 256 + n / 65536 % 256 = omega arith in
-    let d : n / 16777216 % 256 ≡ n / 16777216 = omega arith in
-    omega arith
+use Rattle.message.specs.Downstream.{directedOf, addressOf, addressByte, flagOf, flagByte, delayField, allocationOf, downstreamOf, bytesOf}
 
 triple-again : (n : ℕ) → n ≤ 32000 → n / 65536 % 256 * 65536 + n / 256 % 256 * 256 + n % 256 ≡ n
 triple-again n h = omega arith
@@ -83,10 +59,7 @@ directed-again : (p : Bounded 0 63) → directedOf (p .value) ≡ Ok p
 directed-again p = rw (within-value p)
 
 address-again : (to : Address) → addressOf (addressByte to) ≡ Ok to
-address-again (One p) =
-    let h : p .value ≤ 63 = p .high in
-    let t : eqb (p .value) 64 ≡ false = ne-eqb (p .value) 64 (λ e. omega arith) in
-    rw (t, directed-again p)
+address-again (One p) = rw (one-onu p, directed-again p)
 address-again All = refl
 
 flag-again : (b : Bool) (f : Field) → flagOf (flagByte b) f ≡ Ok b
@@ -134,11 +107,6 @@ again (ChurnedVp p true v) =
 again (ChurnedVp p false v) =
     rw (directed-again p, low-half (v .value), capped-is v _ (path-again (v .value)))
 again Popup = refl
-again (VendorSpecific to k x) =
-    let h : k .value ≤ 7 = k .high in
-    let low : leb 120 (120 + k .value) ≡ true = le-leb 120 (120 + k .value) (omega arith) in
-    let high : leb (120 + k .value) 127 ≡ true = le-leb (120 + k .value) 127 (omega arith) in
-    let e : (120 + k .value) % 8 ≡ k .value = omega arith in
-    rw (low, high, e, within-value k, address-again to, octets-again x)
+again (VendorSpecific to k x) = rw (vendor-named k, vendor-again k, address-again to, octets-again x)
 again (Pst l a b) = rw (within-value l)
-again (BerInterval p n) = rw (directed-again p, capped-is n _ (count-again (n .value) (n .high)))
+again (BerInterval p n) = rw (directed-again p, word-again (p .value) 129 n (replicate 6 0))

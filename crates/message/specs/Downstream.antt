@@ -1,6 +1,7 @@
 -- What twelve bytes say to the ONUs, and the twelve bytes of each message.
 -- Byte 0 is the address, byte 1 the identifier, bytes 2 to 11 are the fields.
 use Prim.Native.Nat.{ℕ, _+_, _*_, _/_, _%_}
+use mathlib.Core.Path.{_≡_}
 use mathlib.Core.Bool.{Bool, true, false, cond, _&&_}
 use mathlib.Core.List.{List, [], _∷_, _++_}
 use lib.Dec.{eqb, leb, ltb}
@@ -268,3 +269,7 @@ bytesOf Popup = plainBytes 64 16 []
 bytesOf (VendorSpecific to kind body) = vendorBytes to kind body
 bytesOf (Pst line k1 k2) = plainBytes 64 128 (line .value ∷ k1 ∷ k2 ∷ [])
 bytesOf (BerInterval p frames) = plainBytes (p .value) 129 (wordBytes (frames .value))
+
+-- every message is read from its own bytes
+abbrev pub Reading-undoes-writing : Type 0
+Reading-undoes-writing = (m : Downstream) → downstreamOf (bytesOf m) ≡ Ok m

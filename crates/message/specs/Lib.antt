@@ -1,1 +1,2 @@
 pub mod Downstream
+pub mod Kept

@@ -27,7 +27,7 @@ use Rattle.payload.specs.Cell.{firstOf, fits, readOf, grantsIn, cellOf, assemb
 fits-itself : (n : ℕ) (fault : CheckFault) → fits n n fault ≡ Ok tt
 fits-itself n fault = let t : eqb n n ≡ true = eq-eqb n n refl in rw t
 
-bit-again : (b : Bool) → eqb (flagByte b % 2) 1 ≡ b
+pub bit-again : (b : Bool) → eqb (flagByte b % 2) 1 ≡ b
 bit-again true = refl
 bit-again false = refl
 

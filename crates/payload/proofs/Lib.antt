@@ -1,3 +1,4 @@
 pub mod Pieces
 pub mod CellAgain
 pub mod FrameAgain
+pub mod CellKept

@@ -3,6 +3,7 @@ use Prim.Native.Nat.{ℕ}
 use mathlib.Core.List.{List}
 use Rattle.std.specs.declared.result.Result.{Result}
 use Rattle.std.specs.declared.result.Result.the-variants.{Ok, Err}
+use Rattle.field.specs.Bytes.{then}
 use Rattle.payload.specs.Cell.{cellOf, cellBytes, written, after}
 use Rattle.payload.specs.Fault.{cellRefusal}
 use Rattle.payload.specs.declared.contents.Contents.{Contents}
@@ -32,3 +33,7 @@ bufferOf (Err e) out = out
 
 abbrev pub rewritten : (b out : List ℕ) → List ℕ
 rewritten b out = bufferOf (cellOf b) out
+
+-- the same, as a result
+abbrev pub rewrittenOf : List ℕ → Result (List ℕ) CellFault
+rewrittenOf b = then (cellOf b) (λ c. Ok (cellBytes c))

@@ -2,3 +2,4 @@ pub mod Fault
 pub mod Cell
 pub mod Frame
 pub mod Export
+pub mod Laws

@@ -4,8 +4,10 @@ ghost use Rattle.payload.specs.Fault.{groupNumber, cellRefusal, frameRefusal};
 ghost use Rattle.payload.specs.declared.fault.CellFault.the-variants.{Check as CheckOf, Message as MessageOf};
 ghost use Rattle.payload.specs.declared.fault.FrameFault.the-variants.{Cell as CellOf};
 use message::fault::MessageFault;
+use message::fault::MessageFaultDisplay;
 use message::fault::MessageFaultEq;
 use message::fault::MessageFaultPartialEq;
+use std::fmt;
 
 // The grants of a cell stand in four groups.
 #[derive(Clone, Copy, PartialEq, Eq)]
@@ -105,6 +107,39 @@ impl FrameFault {
         match self {
             FrameFault::Length => 15,
             FrameFault::Cell { cell: _, fault } => fault.number(),
+        }
+    }
+}
+
+pub impl fmt::Display for CheckFault as CheckFaultDisplay {
+    fn fmt<W: fmt::Write>(&self, f: &mut fmt::Formatter<W>) -> fmt::Result {
+        let group = self.group();
+        write!(f, "check byte of group {group}")
+    }
+}
+
+pub impl fmt::Display for CellFault as CellFaultDisplay {
+    fn fmt<W: fmt::Write>(&self, f: &mut fmt::Formatter<W>) -> fmt::Result {
+        match *self {
+            CellFault::Length => f.write_str("length"),
+            CellFault::Check(fault) => write!(f, "{fault}"),
+            CellFault::Message(fault) => write!(f, "message: {fault}"),
+        }
+    }
+}
+
+pub impl fmt::Display for FrameFault as FrameFaultDisplay {
+    fn fmt<W: fmt::Write>(&self, f: &mut fmt::Formatter<W>) -> fmt::Result {
+        match *self {
+            FrameFault::Length => f.write_str("length"),
+            FrameFault::Cell {
+                cell: Place::First,
+                fault,
+            } => write!(f, "first cell: {fault}"),
+            FrameFault::Cell {
+                cell: Place::Second,
+                fault,
+            } => write!(f, "second cell: {fault}"),
         }
     }
 }

@@ -4,3 +4,4 @@ pub mod contents;
 pub mod export;
 pub mod fault;
 pub mod frame;
+pub mod laws;

@@ -1,6 +1,7 @@
 -- What twelve bytes from an ONU say, and the twelve bytes of each message.
 -- Byte 0 is the source, byte 1 the identifier, bytes 2 to 11 are the fields.
 use Prim.Native.Nat.{ℕ, _+_, _%_}
+use mathlib.Core.Path.{_≡_}
 use mathlib.Core.Bool.{cond, _&&_}
 use mathlib.Core.List.{List, [], _∷_, _++_}
 use lib.Dec.{eqb, leb}
@@ -128,3 +129,7 @@ bytesOf (Rei p errors sequence) = reiBytes p errors sequence
 bytesOf (RInh p) = plainBytes (p .value) 129 []
 bytesOf (Pst p line k1 k2) = plainBytes (p .value) 130 (line .value ∷ k1 ∷ k2 ∷ [])
 bytesOf (MessageError p message) = plainBytes (p .value) 131 (message ∷ [])
+
+-- every message is read from its own bytes
+abbrev pub Reading-undoes-writing : Type 0
+Reading-undoes-writing = (m : Upstream) → upstreamOf (bytesOf m) ≡ Ok m
