@@ -1,15 +1,11 @@
-// A fixed number of grants, in order of their slots.
+// A fixed number of grants, in order of their slots, held as their codes: every byte is a grant.
 ghost use mathlib.Core.Path.{_≡_};
 ghost use lib.ListN.{length};
-use crate::grant::Grant;
-use crate::grant::GrantDebug;
-use crate::grant::GrantEq;
-use crate::grant::GrantPartialEq;
 
 pub mod calls;
 
 #[derive(Clone, Copy, PartialEq, Eq, Debug)]
 pub struct Grants<const N: usize> {
-    places: [Grant; N],
-    ghost full: { length places ≡ N },
+    codes: [u8; N],
+    ghost full: { length codes ≡ N },
 }

@@ -1,19 +1,15 @@
 -- Reading a cell undoes writing it.
 use Prim.Native.Nat.{ℕ, _%_}
 use mathlib.Core.Path.{_≡_, refl, sym, ap, _∙_}
-use mathlib.Core.Bool.{Bool, true, false, cond}
-use mathlib.Core.List.{List, [], _∷_, _++_, map}
+use mathlib.Core.Bool.{Bool, true, false}
+use mathlib.Core.List.{List}
 use lib.Dec.{eqb}
-use lib.ListN.{length, getD}
+use lib.ListN.{length}
 use Rattle.std.specs.declared.result.Result.{Result}
-use Rattle.std.specs.declared.result.Result.the-variants.{Ok, Err}
+use Rattle.std.specs.declared.result.Result.the-variants.{Ok}
 use Rattle.std.proofs.shelf.Tests.{eq-eqb}
-use Rattle.field.specs.Grant.{grantOf, codeOf}
-use Rattle.field.specs.Octets.{pickedOr, picked, grantsOf}
-use Rattle.field.specs.declared.grant.Grant.{Grant}
-use Rattle.field.specs.declared.grant.Grant.the-variants.{Idle}
+use Rattle.field.specs.Octets.{picked, grantsOf}
 use Rattle.field.specs.declared.grants.Grants.{Grants}
-use Rattle.field.proofs.Codes.{grant-again}
 use Rattle.field.proofs.Runs.{all-picked, grants-again}
 use Rattle.message.specs.Downstream.{downstreamOf, bytesOf, flagByte}
 use Rattle.message.specs.declared.downstream.Downstream.{Downstream}
@@ -22,7 +18,7 @@ use Rattle.message.proofs.Twelve.{twelve}
 use Rattle.payload.specs.declared.contents.Contents.{Contents}
 use Rattle.payload.specs.declared.fault.CellFault.{CellFault}
 use Rattle.payload.specs.declared.fault.CheckFault.{CheckFault}
-use Rattle.payload.specs.Cell.{firstOf, fits, readOf, grantsIn, cellOf, assembled, cellBytes}
+use Rattle.payload.specs.Cell.{fits, readOf, grantsIn, cellOf, assembled, cellBytes}
 
 fits-itself : (n : ℕ) (fault : CheckFault) → fits n n fault ≡ Ok tt
 fits-itself n fault = let t : eqb n n ≡ true = eq-eqb n n refl in rw t
@@ -31,36 +27,40 @@ pub bit-again : (b : Bool) → eqb (flagByte b % 2) 1 ≡ b
 bit-again true = refl
 bit-again false = refl
 
+-- the bytes of 27 codes and a message that stand written out
+abbrev out : Bool → (codes bytes : List ℕ) → List ℕ
+out first codes bytes = assembled first (picked 0 27 codes) (picked 0 12 bytes)
+
+read-again : (first : Bool) (codes bytes : List ℕ) (m : Downstream) → downstreamOf (picked 0 12 bytes) ≡ Ok m → readOf (out first codes bytes) ≡ Ok m
+unfolding readOf
+read-again first codes bytes m e = simp fits-itself (rw e)
+
+codes-again : (first : Bool) (codes bytes : List ℕ) → grantsIn (out first codes bytes) ≡ grantsOf 27 (picked 0 27 codes)
+unfolding grantsIn
+codes-again first codes bytes = refl
+
 abbrev cell : Bool → Grants 27 → Downstream → Result Contents CellFault
 cell first grants m = Ok (record { first = first; grants = grants; message = m })
 
--- the bytes of 27 grants and a message that stand written out
-laid : (first : Bool) (places : List Grant) (bytes : List ℕ) (m : Downstream) → downstreamOf (picked 0 12 bytes) ≡ Ok m → readOf (assembled first (map codeOf (pickedOr Idle 0 27 places)) (picked 0 12 bytes)) ≡ Ok m
-unfolding readOf
-laid first places bytes m e = simp fits-itself (rw e)
-
-granted : (first : Bool) (places : List Grant) (bytes : List ℕ) → grantsIn (assembled first (map codeOf (pickedOr Idle 0 27 places)) (picked 0 12 bytes)) ≡ grantsOf 27 (pickedOr Idle 0 27 places)
-unfolding grantsIn
-granted first places bytes = simp grant-again
-
-written-out : (first : Bool) (places : List Grant) (bytes : List ℕ) (m : Downstream) → downstreamOf (picked 0 12 bytes) ≡ Ok m → cellOf (assembled first (map codeOf (pickedOr Idle 0 27 places)) (picked 0 12 bytes)) ≡ Ok (record { first = first; grants = grantsOf 27 (pickedOr Idle 0 27 places); message = m })
+out-again : (first : Bool) (codes bytes : List ℕ) (m : Downstream) → downstreamOf (picked 0 12 bytes) ≡ Ok m → cellOf (out first codes bytes) ≡ cell first (grantsOf 27 (picked 0 27 codes)) m
 unfolding cellOf
-written-out first places bytes m e = rw (laid first places bytes m e, granted first places bytes, bit-again first)
+out-again first codes bytes m e = rw (read-again first codes bytes m e, codes-again first codes bytes, bit-again first)
+
+-- the bytes of a cell, written out
+pub cell-out : (c : Contents) → cellBytes c ≡ out (c .first) (c .grants .codes) (bytesOf (c .message))
+unfolding cellBytes
+cell-out c =
+    ap (λ (xs : List ℕ). assembled (c .first) xs (bytesOf (c .message))) (all-picked 27 (c .grants .codes) (c .grants .full))
+    ∙ ap (assembled (c .first) (picked 0 27 (c .grants .codes))) (all-picked 12 (bytesOf (c .message)) (twelve (c .message)))
 
 pub cell-again : (c : Contents) → cellOf (cellBytes c) ≡ Ok c
-unfolding cellBytes
 cell-again c =
-    let p = all-picked Idle 27 (c .grants .places) (c .grants .full) in
-    let b = all-picked 0 12 (bytesOf (c .message)) (twelve (c .message)) in
-    ap (λ (ps : List Grant). cellOf (assembled (c .first) (map codeOf ps) (bytesOf (c .message)))) p
-    ∙ ap (λ (bs : List ℕ). cellOf (assembled (c .first) (map codeOf (pickedOr Idle 0 27 (c .grants .places))) bs)) b
-    ∙ written-out (c .first) (c .grants .places) (bytesOf (c .message)) (c .message) (ap downstreamOf (sym b) ∙ again (c .message))
-    ∙ ap (λ (ps : List Grant). cell (c .first) (grantsOf 27 ps) (c .message)) (sym p)
+    ap cellOf (cell-out c)
+    ∙ out-again (c .first) (c .grants .codes) (bytesOf (c .message)) (c .message)
+    (ap downstreamOf (sym (all-picked 12 (bytesOf (c .message)) (twelve (c .message)))) ∙ again (c .message))
+    ∙ ap (λ (xs : List ℕ). cell (c .first) (grantsOf 27 xs) (c .message)) (sym (all-picked 27 (c .grants .codes) (c .grants .full)))
     ∙ ap (λ (gs : Grants 27). cell (c .first) gs (c .message)) (grants-again (c .grants))
 
 -- a cell has 48 bytes
 pub cell-length : (c : Contents) → length (cellBytes c) ≡ 48
-unfolding cellBytes
-cell-length c =
-    ap (λ (ps : List Grant). length (assembled (c .first) (map codeOf ps) (bytesOf (c .message)))) (all-picked Idle 27 (c .grants .places) (c .grants .full))
-    ∙ ap (λ (bs : List ℕ). length (assembled (c .first) (map codeOf (pickedOr Idle 0 27 (c .grants .places))) bs)) (all-picked 0 12 (bytesOf (c .message)) (twelve (c .message)))
+cell-length c = ap length (cell-out c)

@@ -16,11 +16,7 @@ use Rattle.std.proofs.shelf.Lists.{getD-past, length-take}
 use Rattle.std.proofs.shelf.Results.{made-at-ok}
 use Rattle.std.proofs.shelf.Tests.{cases-lt}
 use Rattle.field.specs.Bytes.{at}
-use Rattle.field.specs.Grant.{grantOf, codeOf}
-use Rattle.field.specs.Octets.{pickedOr, picked, grantsOf}
-use Rattle.field.specs.declared.grant.Grant.{Grant}
-use Rattle.field.specs.declared.grant.Grant.the-variants.{Idle}
-use Rattle.field.proofs.Codes.{code-again}
+use Rattle.field.specs.Octets.{picked, grantsOf}
 use Rattle.field.proofs.Readings.{then-made, test-made}
 use Rattle.field.proofs.Runs.{all-picked}
 use Rattle.message.specs.Downstream.{downstreamOf, bytesOf}
@@ -50,12 +46,17 @@ read-made b = then-made _ _ (byCheck (checkedOf b)) _ (any-made (byCheck (checke
 abbrev contents : List ℕ → Downstream → Contents
 contents b m = record { first = firstOf b; grants = grantsIn b; message = m }
 
-grants-kept : (b bytes : List ℕ) → ((k : ℕ) → at b k < 256) → grantBytes (assembled (firstOf b) (map codeOf (grantsIn b .places)) bytes) ≡ grantBytes b
-unfolding grantsIn grantsOf
-grants-kept b bytes small =
-    let again : (j : ℕ) → codeOf (grantOf (at b j)) ≡ at b j = λ j. code-again (at b j) (small j) in simp again
+-- the codes of 27 grants that stand in a cell
+abbrev codes : List ℕ → List ℕ
+codes b = grantsIn b .codes
 
-message-kept : (b bytes : List ℕ) → messagePart (assembled (firstOf b) (map codeOf (grantsIn b .places)) (picked 0 12 bytes)) ≡ picked 0 12 bytes
+grants-kept : (b bytes : List ℕ) → length b ≡ 48 → grantBytes (assembled (firstOf b) (codes b) bytes) ≡ grantBytes b
+unfolding grantsIn grantsOf
+grants-kept b bytes h =
+    let e = all-picked 48 b h in
+    ap (λ (xs : List ℕ). grantBytes (assembled (firstOf b) (codes xs) bytes)) e ∙ sym (ap grantBytes e)
+
+message-kept : (b bytes : List ℕ) → messagePart (assembled (firstOf b) (codes b) (picked 0 12 bytes)) ≡ picked 0 12 bytes
 unfolding grantsIn grantsOf
 message-kept b bytes = refl
 
@@ -70,13 +71,13 @@ Keeps b c =
     (firstOf (cellBytes c) ≡ firstOf b) × (grantBytes (cellBytes c) ≡ grantBytes b)
     × (messagePart (cellBytes c) ≡ bytesOf (c .message)) × Kept (messagePart b) (c .message)
 
-parts-kept : (b : List ℕ) → ((k : ℕ) → at b k < 256) → (m : Downstream) → downstreamOf (messagePart b) ≡ Ok m → Keeps b (contents b m)
+parts-kept : (b : List ℕ) → length b ≡ 48 → ((k : ℕ) → at b k < 256) → (m : Downstream) → downstreamOf (messagePart b) ≡ Ok m → Keeps b (contents b m)
 unfolding cellBytes
-parts-kept b small m e =
-    let p = all-picked 0 12 (bytesOf m) (twelve m) in (
+parts-kept b h small m e =
+    let p = all-picked 12 (bytesOf m) (twelve m) in (
       bit-again (firstOf b),
-      grants-kept b (bytesOf m) small,
-      ap (λ (bs : List ℕ). messagePart (assembled (firstOf b) (map codeOf (grantsIn b .places)) bs)) p ∙ message-kept b (bytesOf m) ∙ sym p,
+      grants-kept b (bytesOf m) h,
+      ap (λ (bs : List ℕ). messagePart (assembled (firstOf b) (codes b) bs)) p ∙ message-kept b (bytesOf m) ∙ sym p,
       writing-keeps (messagePart b) (part-small b small) m e,
     )
 
@@ -84,7 +85,7 @@ cell-made : (b : List ℕ) → ((k : ℕ) → at b k < 256) → made (cellOf b) 
 unfolding cellOf
 cell-made b small =
     test-made (Keeps b) (length b) 48 _ _
-    (λ _. then-made (λ m. downstreamOf (messagePart b) ≡ Ok m) (Keeps b) (readOf b) (λ m. Ok (contents b m)) (read-made b) (parts-kept b small)) tt
+    (λ h. then-made (λ m. downstreamOf (messagePart b) ≡ Ok m) (Keeps b) (readOf b) (λ m. Ok (contents b m)) (read-made b) (parts-kept b h small)) tt
 
 pub cell-keeps : Writing-keeps
 cell-keeps b small c e = made-at-ok (Keeps b) e (cell-made b small)

@@ -13,9 +13,7 @@ use Rattle.std.specs.declared.result.Result.the-variants.{Ok, Err}
 use Rattle.std.proofs.shelf.Tests.{eq-eqb}
 use Rattle.std.proofs.shelf.Lists.{take-at, drop-at, take-all, take-append-drop, length-append, length-drop}
 use Rattle.std.proofs.shelf.Edits.{length-between}
-use Rattle.field.specs.Octets.{pickedOr, picked, grantsOf}
-use Rattle.field.specs.declared.grant.Grant.{Grant}
-use Rattle.field.specs.declared.grant.Grant.the-variants.{Idle}
+use Rattle.field.specs.Octets.{picked, grantsOf}
 use Rattle.field.specs.declared.grants.Grants.{Grants}
 use Rattle.field.proofs.Runs.{all-picked, grants-again}
 use Rattle.payload.specs.declared.contents.Contents.{Contents}
@@ -30,25 +28,25 @@ halves-again a b h k =
     (take-at a b 48 h, ap (take 48) (drop-at a b 48 h) ∙ take-all 48 b l, length-append a b ∙ omega arith)
 
 -- the 53 grants, parted over two cells and joined
-parted : (p : List Grant) → length p ≡ 53 → pickedOr Idle 0 27 (between 0 27 p) ++ between 0 26 (pickedOr Idle 0 27 (between 27 53 p ++ Idle ∷ [])) ≡ p
-parted p h =
+parted : (p : List ℕ) (z : ℕ) → length p ≡ 53 → picked 0 27 (between 0 27 p) ++ between 0 26 (picked 0 27 (between 27 53 p ++ z ∷ [])) ≡ p
+parted p z h =
     let m : length (between 0 27 p) ≡ 27 = length-between p 0 27 (omega arith) in
     let n : length (between 27 53 p) ≡ 26 = length-between p 27 53 (omega arith) in
-    let o : length (between 27 53 p ++ Idle ∷ []) ≡ 27 = length-append (between 27 53 p) (Idle ∷ []) ∙ omega arith in
+    let o : length (between 27 53 p ++ z ∷ []) ≡ 27 = length-append (between 27 53 p) (z ∷ []) ∙ omega arith in
     let l : length (drop 27 p) ≤ 26 = omega (arith, length-drop 27 p) in
-    ap (λ (xs : List Grant). xs ++ between 0 26 (pickedOr Idle 0 27 (between 27 53 p ++ Idle ∷ []))) (sym (all-picked Idle 27 (between 0 27 p) m))
-    ∙ ap (λ (xs : List Grant). between 0 27 p ++ between 0 26 xs) (sym (all-picked Idle 27 (between 27 53 p ++ Idle ∷ []) o))
-    ∙ ap (λ (xs : List Grant). between 0 27 p ++ xs) (take-at (between 27 53 p) (Idle ∷ []) 26 n)
-    ∙ ap (λ (xs : List Grant). take 27 p ++ xs) (take-all 26 (drop 27 p) l)
+    ap (λ (xs : List ℕ). xs ++ between 0 26 (picked 0 27 (between 27 53 p ++ z ∷ []))) (sym (all-picked 27 (between 0 27 p) m))
+    ∙ ap (λ (xs : List ℕ). between 0 27 p ++ between 0 26 xs) (sym (all-picked 27 (between 27 53 p ++ z ∷ []) o))
+    ∙ ap (λ (xs : List ℕ). between 0 27 p ++ xs) (take-at (between 27 53 p) (z ∷ []) 26 n)
+    ∙ ap (λ (xs : List ℕ). take 27 p ++ xs) (take-all 26 (drop 27 p) l)
     ∙ take-append-drop 27 p
 
-places-joined : (p : List Grant) → length p ≡ 53 → grantsOf 27 (between 0 27 p) .places ++ between 0 26 (grantsOf 27 (between 27 53 p ++ Idle ∷ []) .places) ≡ p
+codes-joined : (p : List ℕ) (z : ℕ) → length p ≡ 53 → grantsOf 27 (between 0 27 p) .codes ++ between 0 26 (grantsOf 27 (between 27 53 p ++ z ∷ []) .codes) ≡ p
 unfolding grantsOf
-places-joined p h = parted p h
+codes-joined p z h = parted p z h
 
 grants-joined : (f : Frame) → joined (firstCell f .grants) (secondCell f .grants) ≡ f .grants
 unfolding joined firstCell secondCell
-grants-joined f = ap (grantsOf 53) (places-joined (f .grants .places) (f .grants .full)) ∙ grants-again (f .grants)
+grants-joined f = ap (grantsOf 53) (codes-joined (f .grants .codes) 255 (f .grants .full)) ∙ grants-again (f .grants)
 
 first-message : (f : Frame) → firstCell f .message ≡ f .first
 unfolding firstCell

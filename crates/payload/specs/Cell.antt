@@ -2,11 +2,10 @@
 use Prim.Native.Nat.{ℕ, _+_, _-_, _%_, _/_}
 use mathlib.Core.Path.{_≡_}
 use mathlib.Core.Bool.{Bool, cond, _&&_}
-use mathlib.Core.List.{List, [], _∷_, _++_, map}
+use mathlib.Core.List.{List, [], _∷_, _++_}
 use lib.Dec.{eqb, ltb, leb}
 use lib.ListN.{length, getD}
 use Rattle.std.specs.Holes.{between}
-use Rattle.std.specs.Iters.{counting}
 use Rattle.std.specs.declared.option.Option.{Option}
 use Rattle.std.specs.declared.option.Option.the-variants.{Some, None}
 use Rattle.std.specs.declared.result.Result.{Result}
@@ -14,7 +13,7 @@ use Rattle.std.specs.declared.result.Result.the-variants.{Ok, Err}
 use Rattle.field.specs.declared.grant.Grant.{Grant}
 use Rattle.field.specs.declared.grants.Grants.{Grants as GrantRun}
 use Rattle.field.specs.Check.{checkOf}
-use Rattle.field.specs.Grant.{grantOf, codeOf}
+use Rattle.field.specs.Grant.{grantOf}
 use Rattle.field.specs.Octets.{grantsOf}
 use Rattle.message.specs.declared.downstream.Downstream.{Downstream}
 use Rattle.message.specs.declared.fault.MessageFault.{MessageFault}
@@ -38,6 +37,13 @@ groupOf First b = between 3 10 b
 groupOf Second b = between 11 18 b
 groupOf Third b = between 19 26 b
 groupOf Fourth b = between 27 33 b
+
+-- how many there are
+abbrev pub sizeOf : Group → ℕ
+sizeOf First = 7
+sizeOf Second = 7
+sizeOf Third = 7
+sizeOf Fourth = 6
 
 abbrev pub messagePart : List ℕ → List ℕ
 messagePart b = between 34 46 b
@@ -82,9 +88,9 @@ grantAt b k = grantOf (at b (k + 3 + k / 7))
 abbrev pub grantIn : ℕ → List ℕ → Option Grant
 grantIn place b = cond (leb 1 place && leb place 27) (Some (grantAt b (place - 1))) None
 
--- all 27
+-- all 27, by their codes
 unfoldable pub grantsIn : List ℕ → GrantRun 27
-grantsIn b = grantsOf 27 (map (grantAt b) (counting 0 27))
+grantsIn b = grantsOf 27 (groupOf First b ++ groupOf Second b ++ groupOf Third b ++ groupOf Fourth b)
 
 -- the contents of a cell, or the first fault: the length, the check bytes in order, the message
 unfoldable pub cellOf : List ℕ → Result Contents CellFault
@@ -106,7 +112,7 @@ assembled first codes message =
     ++ 0 ∷ []
 
 unfoldable pub cellBytes : Contents → List ℕ
-cellBytes c = assembled (c .first) (map codeOf (c .grants .places)) (bytesOf (c .message))
+cellBytes c = assembled (c .first) (c .grants .codes) (bytesOf (c .message))
 
 -- a buffer of another length is refused and left as it was
 abbrev pub written : {E : Type 0} → (n : ℕ) → E → List ℕ → Result (Unit {0}) E

@@ -8,6 +8,7 @@ use Rattle.std.specs.Holes.{between}
 use Rattle.std.specs.declared.result.Result.{Result}
 use Rattle.std.specs.declared.result.Result.the-variants.{Ok, Err}
 use Rattle.field.specs.Bytes.{then}
+use Rattle.field.specs.Grant.{codeOf}
 use Rattle.field.specs.Octets.{grantsOf}
 use Rattle.field.specs.declared.grant.Grant.the-variants.{Idle}
 use Rattle.field.specs.declared.grants.Grants.{Grants}
@@ -22,7 +23,7 @@ use Rattle.payload.specs.declared.fault.FrameFault.the-variants.{Length, Cell}
 
 -- the grants of both cells, all but the last, which stands for no slot
 unfoldable pub joined : Grants 27 → Grants 27 → Grants 53
-joined first second = grantsOf 53 (first .places ++ between 0 26 (second .places))
+joined first second = grantsOf 53 (first .codes ++ between 0 26 (second .codes))
 
 -- the reading of one of the two cells, whose fault says which
 abbrev pub placed : {A : Type 0} → Place → Result A CellFault → Result A (Place × CellFault)
@@ -48,10 +49,10 @@ frameOf b =
 
 -- the first cell has the frame bit and 27 grants, the second the other 26 and an idle one
 unfoldable pub firstCell : Frame → Contents
-firstCell f = record { first = true; grants = grantsOf 27 (between 0 27 (f .grants .places)); message = f .first }
+firstCell f = record { first = true; grants = grantsOf 27 (between 0 27 (f .grants .codes)); message = f .first }
 
 unfoldable pub secondCell : Frame → Contents
-secondCell f = record { first = false; grants = grantsOf 27 (between 27 53 (f .grants .places) ++ Idle ∷ []); message = f .second }
+secondCell f = record { first = false; grants = grantsOf 27 (between 27 53 (f .grants .codes) ++ codeOf Idle ∷ []); message = f .second }
 
 unfoldable pub frameBytes : Frame → List ℕ
 frameBytes f = cellBytes (firstCell f) ++ cellBytes (secondCell f)

@@ -5,7 +5,8 @@ ghost use lib.ListN.{length};
 ghost use lib.Dec.{eqb};
 ghost use Rattle.std.specs.declared.result.Result.the-variants.{Ok, Err};
 ghost use Rattle.message.specs.Downstream.{downstreamOf};
-ghost use Rattle.payload.specs.Cell.{firstOf, groupOf, messagePart, groupChecked, messageChecked, checkedOf, readOf, grantIn, grantsIn};
+ghost use Rattle.payload.specs.Cell.{firstOf, groupOf, sizeOf, messagePart, groupChecked, messageChecked, checkedOf, readOf, grantIn, grantsIn};
+use crate::contents::write::put;
 use crate::fault::CellFault;
 use crate::fault::CellFromCheck;
 use crate::fault::CellFromMessage;
@@ -43,7 +44,8 @@ impl<'a> Cell<'a> {
 
     // The grants of one group, as they stand in the cell.
     pub fn group(&self, group: Group) -> &'a [u8]
-        ensures { λ r. ⌜ now r ≡ groupOf group (now (now (self .entry) .bytes)) ⌝ }
+        ensures value { λ r. ⌜ now r ≡ groupOf group (now (now (self .entry) .bytes)) ⌝ }
+        ensures len { λ r. ⌜ length (now r) ≡ sizeOf group ⌝ }
     {
         let whole = self.bytes;
         match group {
@@ -139,11 +141,11 @@ impl<'a> Cell<'a> {
     pub fn grants(&self) -> Grants<27>
         ensures { λ r. ⌜ r ≡ grantsIn (now (now (self .entry) .bytes)) ⌝ }
     {
-        let whole = self.bytes;
-        let mut places = [Grant::Idle; 27];
-        for k in 0..27 {
-            places[k] = Grant::from_byte(whole[k + 3 + k / 7]);
-        }
-        Grants::new(places)
+        let mut codes = [0; 27];
+        put(&mut codes, 0, 7, self.group(Group::First));
+        put(&mut codes, 7, 14, self.group(Group::Second));
+        put(&mut codes, 14, 21, self.group(Group::Third));
+        put(&mut codes, 21, 27, self.group(Group::Fourth));
+        Grants::from_codes(codes)
     }
 }

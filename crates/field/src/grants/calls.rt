@@ -1,24 +1,46 @@
 ghost use mathlib.Core.Path.{_≡_};
 ghost use mathlib.Core.Bool.{cond};
+ghost use mathlib.Core.List.{map};
 ghost use lib.Dec.{ltb};
 ghost use lib.ListN.{length, getD};
 ghost use Rattle.std.specs.declared.option.Option.the-variants.{Some, None};
+ghost use Rattle.field.specs.Grant.{grantOf, codeOf};
 ghost use Rattle.field.specs.Octets.{grantsOf};
-ghost use Rattle.field.specs.declared.grant.Grant.the-variants.{Idle};
 use super::Grants;
 use crate::grant::Grant;
 
 impl<const N: usize> Grants<N> {
-    pub fn new(places: [Grant; N]) -> Grants<N>
-        ensures { λ r. ⌜ r ≡ grantsOf N (places .entry) ⌝ }
+    pub fn from_codes(codes: [u8; N]) -> Grants<N>
+        ensures { λ r. ⌜ r ≡ grantsOf N (codes .entry) ⌝ }
     {
-        Grants { places }
+        Grants { codes }
     }
 
-    pub fn places(self) -> [Grant; N]
-        ensures places { λ r. ⌜ r ≡ self .entry .places ⌝ }
+    pub fn new(places: [Grant; N]) -> Grants<N>
+        ensures { λ r. ⌜ r ≡ grantsOf N (map codeOf (places .entry)) ⌝ }
+    {
+        let mut codes = [0; N];
+        for k in 0..N {
+            codes[k] = places[k].byte();
+        }
+        Grants { codes }
+    }
+
+    pub fn codes(self) -> [u8; N]
+        ensures codes { λ r. ⌜ r ≡ self .entry .codes ⌝ }
         ensures full { λ r. ⌜ length r ≡ N ⌝ }
     {
-        self.places
+        self.codes
+    }
+
+    // The grant at a place, counted from 0; none past the last.
+    pub fn place(&self, k: usize) -> Option<Grant>
+        ensures { λ r. ⌜ r ≡ cond (ltb k N) (Some (grantOf (getD (now (self .entry) .codes) k 0))) None ⌝ }
+    {
+        if k < N {
+            Some(Grant::from_byte(self.codes[k]))
+        } else {
+            None
+        }
     }
 }

@@ -1,33 +1,19 @@
 ghost use mathlib.Core.Path.{_≡_};
-ghost use mathlib.Core.List.{[], _∷_, _++_, map};
+ghost use mathlib.Core.List.{[], _∷_, _++_};
 ghost use Prim.Native.Nat.{_+_, _<_, _≤_};
 ghost use lib.ListN.{length, take};
-ghost use Rattle.field.specs.Grant.{codeOf};
 ghost use Rattle.payload.specs.Cell.{assembled, cellBytes, written, after};
 use crate::contents::Contents;
 use crate::fault::CellFault;
 use field::check::check_byte;
 use field::check::check_byte_and_zero;
-use field::grants::Grants;
 
-// The codes of a cell's grants.
-fn codes(grants: Grants<27>) -> [u8; 27]
-    ensures { λ r. ⌜ r ≡ map codeOf (grants .places) ⌝ }
+// Writes bytes from a place up to an end; what stands before them stays.
+pub(crate) fn put(out: &mut [u8], at: usize, end: usize, bytes: &[u8])
+    requires { ⌜ at + length (now bytes) ≡ end ⌝ ∗ ⌜ end ≤ length (now out) ⌝ }
+    ensures { λ _. ⌜ take end (now (out .exit)) ≡ take at (now (out .entry)) ++ now (bytes .entry) ⌝ }
 {
-    let places = grants.places();
-    let mut bytes = [0; 27];
-    for k in 0..27 {
-        bytes[k] = places[k].byte();
-    }
-    bytes
-}
-
-// Writes items from a place up to an end; what stands before them stays.
-pub(crate) fn put<T: Copy>(out: &mut [T], at: usize, end: usize, items: &[T])
-    requires { ⌜ at + length (now items) ≡ end ⌝ ∗ ⌜ end ≤ length (now out) ⌝ }
-    ensures { λ _. ⌜ take end (now (out .exit)) ≡ take at (now (out .entry)) ++ now (items .entry) ⌝ }
-{
-    out[at..end].copy_from_slice(items);
+    out[at..end].copy_from_slice(bytes);
 }
 
 // Writes a part of a cell and its check byte.
@@ -66,7 +52,7 @@ pub(crate) fn fill_cell(contents: &Contents, out: &mut [u8])
 {
     assemble(
         contents.first,
-        &codes(contents.grants),
+        &contents.grants.codes(),
         &contents.message.write(),
         out,
     );

@@ -8,19 +8,18 @@ use crate::fault::FrameFault;
 use crate::fault::FrameFromCell;
 use crate::fault::Place;
 use crate::frame::Frame;
-use field::grant::Grant;
 use field::grants::Grants;
 
 // The grants of both cells, all but the last.
 fn join(first: Grants<27>, second: Grants<27>) -> Grants<53>
     ensures { λ r. ⌜ r ≡ joined first second ⌝ }
 {
-    let mut places = [Grant::Idle; 53];
-    let front = first.places();
-    let back = second.places();
-    put(&mut places, 0, 27, &front);
-    put(&mut places, 27, 53, &back[0..26]);
-    Grants::new(places)
+    let mut codes = [0; 53];
+    let front = first.codes();
+    let back = second.codes();
+    put(&mut codes, 0, 27, &front);
+    put(&mut codes, 27, 53, &back[0..26]);
+    Grants::from_codes(codes)
 }
 
 // One of a frame's cells; a fault says which.

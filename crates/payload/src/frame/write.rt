@@ -13,12 +13,12 @@ use field::grants::Grants;
 fn first_cell(frame: &Frame) -> Contents
     ensures { λ r. ⌜ r ≡ firstCell (now (frame .entry)) ⌝ }
 {
-    let places = frame.grants.places();
-    let mut front = [Grant::Idle; 27];
-    put(&mut front, 0, 27, &places[0..27]);
+    let codes = frame.grants.codes();
+    let mut front = [0; 27];
+    put(&mut front, 0, 27, &codes[0..27]);
     Contents {
         first: true,
-        grants: Grants::new(front),
+        grants: Grants::from_codes(front),
         message: frame.first,
     }
 }
@@ -27,13 +27,13 @@ fn first_cell(frame: &Frame) -> Contents
 fn second_cell(frame: &Frame) -> Contents
     ensures { λ r. ⌜ r ≡ secondCell (now (frame .entry)) ⌝ }
 {
-    let places = frame.grants.places();
-    let mut back = [Grant::Idle; 27];
-    put(&mut back, 0, 26, &places[27..53]);
-    put(&mut back, 26, 27, &[Grant::Idle]);
+    let codes = frame.grants.codes();
+    let mut back = [0; 27];
+    put(&mut back, 0, 26, &codes[27..53]);
+    put(&mut back, 26, 27, &[Grant::Idle.byte()]);
     Contents {
         first: false,
-        grants: Grants::new(back),
+        grants: Grants::from_codes(back),
         message: frame.second,
     }
 }

@@ -3,4 +3,4 @@ use Rattle.std.proofs.shelf.Parts.{take-putMid}
 use Rattle.payload.proofs.contents.write.put.Needs as need
 
 pub returns : need.returns
-returns g c = search (needs, take-putMid)
+returns c = search (needs, take-putMid)

@@ -10,5 +10,5 @@ use Rattle.payload.proofs.frame.read.join.Needs as need
 pub returns : need.returns
 unfolding joined
 returns c =
-    c .new .ensures
-    ∙ ap (grantsOf 53) (two-pieces (c .args .first .places) (between 0 26 (c .args .second .places)) (c .put .last .out) (c .put-2 .last .out) 27 53 (cc) (cc) (search needs))
+    c .from-codes .ensures
+    ∙ ap (grantsOf 53) (two-pieces (c .args .first .codes) (between 0 26 (c .args .second .codes)) (c .put .last .out) (c .put-2 .last .out) 27 53 (cc) (cc) (search needs))

@@ -8,5 +8,5 @@ use Rattle.payload.proofs.frame.write.first_cell.Needs as need
 pub returns : need.returns
 unfolding firstCell
 returns c =
-    let e : c .put .last .out ≡ between 0 27 (c .args .frame .now .grants .places) = one-piece _ _ 27 (cc) (search needs) in
+    let e : c .put .last .out ≡ between 0 27 (c .args .frame .now .grants .codes) = one-piece _ _ 27 (cc) (search needs) in
     cc
