@@ -16,9 +16,10 @@ use Rattle.message.specs.declared.downstream.Downstream.{Downstream}
 use Rattle.message.proofs.RoundTrip.{again}
 use Rattle.message.proofs.Twelve.{twelve}
 use Rattle.payload.specs.declared.contents.Contents.{Contents}
-use Rattle.payload.specs.declared.fault.CellFault.{CellFault}
-use Rattle.payload.specs.declared.fault.CheckFault.{CheckFault}
-use Rattle.payload.specs.Cell.{fits, readOf, grantsIn, cellOf, assembled, cellBytes}
+use Rattle.cell.specs.declared.fault.CellFault.{CellFault}
+use Rattle.cell.specs.declared.fault.CheckFault.{CheckFault}
+use Rattle.cell.specs.Reader.{fits, readOf}
+use Rattle.payload.specs.Cell.{grantsIn, cellOf, assembled, cellBytes}
 
 fits-itself : (n : ℕ) (fault : CheckFault) → fits n n fault ≡ Ok tt
 fits-itself n fault = let t : eqb n n ≡ true = eq-eqb n n refl in rw t

@@ -25,7 +25,8 @@ use Rattle.message.specs.declared.downstream.Downstream.{Downstream}
 use Rattle.message.specs.declared.fault.MessageFault.{MessageFault}
 use Rattle.message.proofs.Kept.{writing-keeps}
 use Rattle.message.proofs.Twelve.{twelve}
-use Rattle.payload.specs.Cell.{firstOf, messagePart, checkedOf, byCheck, byMessage, readOf, grantsIn, cellOf, assembled, cellBytes}
+use Rattle.cell.specs.Reader.{firstOf, messagePart, checkedOf, byCheck, byMessage, readOf}
+use Rattle.payload.specs.Cell.{grantsIn, cellOf, assembled, cellBytes}
 use Rattle.payload.specs.Laws.{grantBytes, Writing-keeps}
 use Rattle.payload.specs.declared.contents.Contents.{Contents}
 use Rattle.payload.proofs.CellAgain.{bit-again}

@@ -5,10 +5,10 @@ use Rattle.std.specs.declared.result.Result.{Result}
 use Rattle.std.specs.declared.result.Result.the-variants.{Ok, Err}
 use Rattle.field.specs.Bytes.{then}
 use Rattle.payload.specs.Cell.{cellOf, cellBytes, written, after}
-use Rattle.payload.specs.Fault.{cellRefusal}
+use Rattle.cell.specs.Fault.{cellRefusal}
 use Rattle.payload.specs.declared.contents.Contents.{Contents}
-use Rattle.payload.specs.declared.fault.CellFault.{CellFault}
-use Rattle.payload.specs.declared.fault.CellFault.the-variants.{Length}
+use Rattle.cell.specs.declared.fault.CellFault.{CellFault}
+use Rattle.cell.specs.declared.fault.CellFault.the-variants.{Length}
 
 -- 0, or the number of the refusal
 abbrev pub answerOf : {A : Type 0} → Result A CellFault → ℕ

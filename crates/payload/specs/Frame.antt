@@ -15,11 +15,11 @@ use Rattle.field.specs.declared.grants.Grants.{Grants}
 use Rattle.payload.specs.Cell.{cellOf, cellBytes}
 use Rattle.payload.specs.declared.contents.Contents.{Contents}
 use Rattle.payload.specs.declared.frame.Frame.{Frame}
-use Rattle.payload.specs.declared.fault.Place.{Place}
-use Rattle.payload.specs.declared.fault.Place.the-variants.{First, Second}
-use Rattle.payload.specs.declared.fault.CellFault.{CellFault}
-use Rattle.payload.specs.declared.fault.FrameFault.{FrameFault}
-use Rattle.payload.specs.declared.fault.FrameFault.the-variants.{Length, Cell}
+use Rattle.cell.specs.declared.fault.Place.{Place}
+use Rattle.cell.specs.declared.fault.Place.the-variants.{First, Second}
+use Rattle.cell.specs.declared.fault.CellFault.{CellFault}
+use Rattle.cell.specs.declared.fault.FrameFault.{FrameFault}
+use Rattle.cell.specs.declared.fault.FrameFault.the-variants.{Length, Cell}
 
 -- the grants of both cells, all but the last, which stands for no slot
 unfoldable pub joined : Grants 27 → Grants 27 → Grants 53

@@ -19,7 +19,8 @@ use Rattle.message.specs.Downstream.{downstreamOf, bytesOf}
 use Rattle.message.specs.Kept.{Kept}
 use Rattle.message.specs.declared.downstream.Address.the-variants.{All}
 use Rattle.message.specs.declared.downstream.Downstream.the-variants.{AssignPonId, RangingTime, GrantAllocation, DeactivatePonId}
-use Rattle.payload.specs.Cell.{firstOf, messagePart, cellOf, cellBytes}
+use Rattle.cell.specs.Reader.{firstOf, messagePart}
+use Rattle.payload.specs.Cell.{cellOf, cellBytes}
 use Rattle.payload.specs.Frame.{frameOf, frameBytes}
 use Rattle.payload.specs.declared.contents.Contents.{Contents}
 use Rattle.payload.specs.declared.frame.Frame.{Frame}

@@ -1,4 +1,3 @@
-pub mod Fault
 pub mod Cell
 pub mod Frame
 pub mod Export

@@ -1,9 +1,9 @@
 // What C code calls: slices pass as a pointer and a length.
 ghost use mathlib.Core.Path.{_≡_};
 ghost use Rattle.payload.specs.Export.{checkAnswer, rewriteAnswer, rewritten};
-use crate::cell::Cell;
 use crate::contents::read::read_cell;
 use crate::contents::write::write_cell;
+use cell::reader::Cell;
 
 // 0 where the bytes are a sound cell, or the number of the refusal.
 #[unsafe(no_mangle)]

@@ -6,11 +6,11 @@ ghost use Rattle.payload.specs.Laws.{Reading-undoes-writing, Writing-keeps, Fi
 use crate::contents::Contents;
 use crate::contents::read::read_cell;
 use crate::contents::write::write_cell;
-use crate::fault::CellFault;
-use crate::fault::FrameFault;
 use crate::frame::Frame;
 use crate::frame::read::read_frame;
 use crate::frame::write::write_frame;
+use cell::fault::CellFault;
+use cell::fault::FrameFault;
 
 // Reading undoes writing, for every cell's contents.
 pub fn reading_undoes_writing_cell(contents: &Contents) -> Result<Contents, CellFault>

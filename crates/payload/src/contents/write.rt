@@ -4,7 +4,7 @@ ghost use Prim.Native.Nat.{_+_, _<_, _≤_};
 ghost use lib.ListN.{length, take};
 ghost use Rattle.payload.specs.Cell.{assembled, cellBytes, written, after};
 use crate::contents::Contents;
-use crate::fault::CellFault;
+use cell::fault::CellFault;
 use field::check::check_byte;
 use field::check::check_byte_and_zero;
 

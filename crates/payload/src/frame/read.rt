@@ -3,11 +3,11 @@ ghost use Rattle.payload.specs.Frame.{joined, inPlace, frameOf};
 use crate::contents::Contents;
 use crate::contents::read::read_cell;
 use crate::contents::write::put;
-use crate::fault::CellFault;
-use crate::fault::FrameFault;
-use crate::fault::FrameFromCell;
-use crate::fault::Place;
 use crate::frame::Frame;
+use cell::fault::CellFault;
+use cell::fault::FrameFault;
+use cell::fault::FrameFromCell;
+use cell::fault::Place;
 use field::grants::Grants;
 
 // The grants of both cells, all but the last.

@@ -4,8 +4,8 @@ ghost use Rattle.payload.specs.Frame.{firstCell, secondCell, frameBytes};
 use crate::contents::Contents;
 use crate::contents::write::fill_cell;
 use crate::contents::write::put;
-use crate::fault::FrameFault;
 use crate::frame::Frame;
+use cell::fault::FrameFault;
 use field::grant::Grant;
 use field::grants::Grants;
 

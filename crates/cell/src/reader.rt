@@ -5,8 +5,7 @@ ghost use lib.ListN.{length};
 ghost use lib.Dec.{eqb};
 ghost use Rattle.std.specs.declared.result.Result.the-variants.{Ok, Err};
 ghost use Rattle.message.specs.Downstream.{downstreamOf};
-ghost use Rattle.payload.specs.Cell.{firstOf, groupOf, sizeOf, messagePart, groupChecked, messageChecked, checkedOf, readOf, grantIn, grantsIn};
-use crate::contents::write::put;
+ghost use Rattle.cell.specs.Reader.{firstOf, groupOf, sizeOf, messagePart, groupChecked, messageChecked, checkedOf, readOf, grantIn};
 use crate::fault::CellFault;
 use crate::fault::CellFromCheck;
 use crate::fault::CellFromMessage;
@@ -15,13 +14,12 @@ use crate::fault::Group;
 use field::check::check_byte;
 use field::check::check_byte_and_zero;
 use field::grant::Grant;
-use field::grants::Grants;
 use message::downstream::Downstream;
 use message::fault::MessageFault;
 
 #[derive(Clone, Copy)]
 pub struct Cell<'a> {
-    bytes: &'a [u8; 48],
+    pub bytes: &'a [u8; 48],
 }
 
 impl<'a> Cell<'a> {
@@ -135,17 +133,5 @@ impl<'a> Cell<'a> {
         }
         let k = usize::from(place - 1);
         Some(Grant::from_byte(self.bytes[k + 3 + k / 7]))
-    }
-
-    // All 27 grants.
-    pub fn grants(&self) -> Grants<27>
-        ensures { λ r. ⌜ r ≡ grantsIn (now (now (self .entry) .bytes)) ⌝ }
-    {
-        let mut codes = [0; 27];
-        put(&mut codes, 0, 7, self.group(Group::First));
-        put(&mut codes, 7, 14, self.group(Group::Second));
-        put(&mut codes, 14, 21, self.group(Group::Third));
-        put(&mut codes, 21, 27, self.group(Group::Fourth));
-        Grants::from_codes(codes)
     }
 }

@@ -1,8 +1,8 @@
 // Why bytes are no cell or no frame; nothing of a fault is lost on its way up.
 ghost use mathlib.Core.Path.{_≡_};
-ghost use Rattle.payload.specs.Fault.{groupNumber, cellRefusal, frameRefusal};
-ghost use Rattle.payload.specs.declared.fault.CellFault.the-variants.{Check as CheckOf, Message as MessageOf};
-ghost use Rattle.payload.specs.declared.fault.FrameFault.the-variants.{Cell as CellOf};
+ghost use Rattle.cell.specs.Fault.{groupNumber, cellRefusal, frameRefusal};
+ghost use Rattle.cell.specs.declared.fault.CellFault.the-variants.{Check as CheckOf, Message as MessageOf};
+ghost use Rattle.cell.specs.declared.fault.FrameFault.the-variants.{Cell as CellOf};
 use message::fault::MessageFault;
 use message::fault::MessageFaultDisplay;
 use message::fault::MessageFaultEq;

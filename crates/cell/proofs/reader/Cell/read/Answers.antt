@@ -1,6 +1,6 @@
 use borrow.Author.Needs.{needs}
-use Rattle.payload.specs.Cell.{readOf}
-use Rattle.payload.proofs.cell.Cell.read.Needs as need
+use Rattle.cell.specs.Reader.{readOf}
+use Rattle.cell.proofs.reader.Cell.read.Needs as need
 
 pub returns-in-Break-check : need.returns-in-Break-check
 unfolding readOf

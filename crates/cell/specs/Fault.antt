@@ -1,12 +1,12 @@
 -- The numbers of the refusals.
 use Prim.Native.Nat.{ℕ}
-use Rattle.payload.specs.declared.fault.Group.the-variants.{First, Second, Third, Fourth}
-use Rattle.payload.specs.declared.fault.CheckFault.{CheckFault}
-use Rattle.payload.specs.declared.fault.CheckFault.the-variants.{Grants, Message as MessageGroup}
-use Rattle.payload.specs.declared.fault.CellFault.{CellFault}
-use Rattle.payload.specs.declared.fault.CellFault.the-variants.{Length as CellLength, Check, Message}
-use Rattle.payload.specs.declared.fault.FrameFault.{FrameFault}
-use Rattle.payload.specs.declared.fault.FrameFault.the-variants.{Length, Cell}
+use Rattle.cell.specs.declared.fault.Group.the-variants.{First, Second, Third, Fourth}
+use Rattle.cell.specs.declared.fault.CheckFault.{CheckFault}
+use Rattle.cell.specs.declared.fault.CheckFault.the-variants.{Grants, Message as MessageGroup}
+use Rattle.cell.specs.declared.fault.CellFault.{CellFault}
+use Rattle.cell.specs.declared.fault.CellFault.the-variants.{Length as CellLength, Check, Message}
+use Rattle.cell.specs.declared.fault.FrameFault.{FrameFault}
+use Rattle.cell.specs.declared.fault.FrameFault.the-variants.{Length, Cell}
 
 -- the groups of grants are 1 to 4, the message is 5
 abbrev pub groupNumber : CheckFault → ℕ
