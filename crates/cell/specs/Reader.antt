@@ -72,7 +72,7 @@ byMessage (Ok x) = Ok x
 byMessage (Err e) = Err (Message e)
 
 -- the strict reading of 48 bytes: all check bytes first, then the message
-unfoldable pub readOf : List ℕ → Result Downstream CellFault
+abbrev pub readOf : List ℕ → Result Downstream CellFault
 readOf b = then (byCheck (checkedOf b)) (λ _. byMessage (downstreamOf (messagePart b)))
 
 -- the grant at place k, counted from 0: seven to a group, and a check byte after each group

@@ -1,5 +1,9 @@
 -- A number within its bounds is made into a value, one outside is not, and a value's number gives that value again.
 use Prim.Native.Nat.{ℕ, _+_, _≤_, _<_, min}
+use mathlib.Core.Logic.{⊎-elim}
+use mathlib.Core.Bool.{false, _&&_}
+use lib.Dec.{leb}
+use Rattle.std.proofs.shelf.Tests.{and-cases, leb-false}
 use native.Mathlib.Bridge.{le-prop}
 use native.Mathlib.Decide.{decLe}
 use native.Mathlib.Nat.{min-le-right}
@@ -44,6 +48,10 @@ within-low low high n h = between-low (decLe low n) (decLe n high) h
 pub within-high : (low high n : ℕ) → high < n → within low high n ≡ None
 unfolding within
 within-high low high n h = between-high (decLe low n) (decLe n high) h
+
+pub within-out : (low high n : ℕ) → (leb low n && leb n high) ≡ false → within low high n ≡ None
+within-out low high n e =
+    ⊎-elim (λ a. within-low low high n (leb-false low n a)) (λ b. within-high low high n (leb-false n high b)) (and-cases (leb low n) (leb n high) e)
 
 pub within-value : {low high : ℕ} (x : Bounded low high) → within low high (x .value) ≡ Some x
 within-value {low} {high} x = within-in low high (x .value) (x .low) (x .high)
@@ -127,6 +135,10 @@ minislot-empty offset length h = part-empty offset length (decLe 1 length) (decL
 pub minislot-long : (offset length : ℕ) → 53 < offset + length → minislotOf offset length ≡ None
 unfolding minislotOf
 minislot-long offset length h = part-long offset length (decLe 1 length) (decLe (offset + length) 53) h
+
+pub minislot-out : (offset length : ℕ) → (leb 1 length && leb (offset + length) 53) ≡ false → minislotOf offset length ≡ None
+minislot-out offset length e =
+    ⊎-elim (λ a. minislot-empty offset length (leb-false 1 length a)) (λ b. minislot-long offset length (leb-false (offset + length) 53 b)) (and-cases (leb 1 length) (leb (offset + length) 53) e)
 
 pub minislot-parts : (m : Minislot) → minislotOf (m .offset) (m .length) ≡ Some m
 minislot-parts m = minislot-in (m .offset) (m .length) (m .some) (m .inside)

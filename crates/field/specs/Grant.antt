@@ -1,5 +1,6 @@
 -- Grants and their codes.
-use Prim.Native.Nat.{ℕ}
+use Prim.Native.Nat.{ℕ, _<_}
+use mathlib.Core.Path.{_≡_}
 use mathlib.Core.Bool.{cond}
 use lib.Dec.{eqb}
 use Rattle.std.specs.declared.option.Option.{Option}
@@ -23,3 +24,7 @@ codeOf (Code code) = code .value
 codeOf Ranging = 253
 codeOf Unassigned = 254
 codeOf Idle = 255
+
+-- a grant and its byte stand for each other
+abbrev pub Grant-and-byte-agree : Type 0
+Grant-and-byte-agree = ((g : Grant) → grantOf (codeOf g) ≡ g) × ((n : ℕ) → n < 256 → codeOf (grantOf n) ≡ n)

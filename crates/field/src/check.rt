@@ -271,20 +271,34 @@ fn after_byte(check: u8, byte: u8) -> u8
     TABLE[(check ^ byte) as usize]
 }
 
-// The check byte of any bytes.
-pub fn check_byte(bytes: &[u8]) -> u8
-    ensures { λ r. ⌜ r ≡ checkOf (now (bytes .entry)) ⌝ }
+// The remainder after some bytes more, from a register preset to 0.
+fn after_bytes(preset: u8, bytes: &[u8]) -> u8
+    ensures { λ r. ⌜ (preset ≡ 0 → r ≡ checkOf (now (bytes .entry))) ⌝ }
 {
-    let mut check = 0u8;
+    let mut check = preset;
     for byte in bytes {
         check = after_byte(check, *byte);
     }
     check
 }
 
+// The check byte of any bytes.
+pub fn check_byte(bytes: &[u8]) -> u8
+    ensures { λ r. ⌜ r ≡ checkOf (now (bytes .entry)) ⌝ }
+{
+    after_bytes(0, bytes)
+}
+
+// The check byte of any bytes with one more after them.
+fn check_byte_and(bytes: &[u8], byte: u8) -> u8
+    ensures { λ r. ⌜ r ≡ checkOf (now (bytes .entry) ++ byte ∷ []) ⌝ }
+{
+    after_byte(check_byte(bytes), byte)
+}
+
 // The check byte of any bytes with one zero byte after them.
 pub fn check_byte_and_zero(bytes: &[u8]) -> u8
     ensures { λ r. ⌜ r ≡ checkOf (now (bytes .entry) ++ 0 ∷ []) ⌝ }
 {
-    after_byte(check_byte(bytes), 0)
+    check_byte_and(bytes, 0)
 }

@@ -1,6 +1,6 @@
 // A grant: who may send in one upstream slot.
 ghost use mathlib.Core.Path.{_≡_};
-ghost use Rattle.field.specs.Grant.{grantOf, codeOf};
+ghost use Rattle.field.specs.Grant.{grantOf, codeOf, Grant-and-byte-agree};
 use crate::bounded::BoundedDebug;
 use crate::bounded::BoundedEq;
 use crate::bounded::BoundedPartialEq;
@@ -41,5 +41,13 @@ impl Grant {
             Grant::Unassigned => 254,
             Grant::Idle => 255,
         }
+    }
+
+    // A grant and its byte stand for each other.
+    pub fn through_byte(self) -> Grant
+        ensures value { λ r. ⌜ r ≡ self ⌝ }
+        ensures law { λ _. ⌜ Grant-and-byte-agree ⌝ }
+    {
+        Grant::from_byte(self.byte())
     }
 }

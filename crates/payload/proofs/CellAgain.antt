@@ -33,7 +33,6 @@ abbrev out : Bool → (codes bytes : List ℕ) → List ℕ
 out first codes bytes = assembled first (picked 0 27 codes) (picked 0 12 bytes)
 
 read-again : (first : Bool) (codes bytes : List ℕ) (m : Downstream) → downstreamOf (picked 0 12 bytes) ≡ Ok m → readOf (out first codes bytes) ≡ Ok m
-unfolding readOf
 read-again first codes bytes m e = simp fits-itself (rw e)
 
 codes-again : (first : Bool) (codes bytes : List ℕ) → grantsIn (out first codes bytes) ≡ grantsOf 27 (picked 0 27 codes)
@@ -44,7 +43,6 @@ abbrev cell : Bool → Grants 27 → Downstream → Result Contents CellFault
 cell first grants m = Ok (record { first = first; grants = grants; message = m })
 
 out-again : (first : Bool) (codes bytes : List ℕ) (m : Downstream) → downstreamOf (picked 0 12 bytes) ≡ Ok m → cellOf (out first codes bytes) ≡ cell first (grantsOf 27 (picked 0 27 codes)) m
-unfolding cellOf
 out-again first codes bytes m e = rw (read-again first codes bytes m e, codes-again first codes bytes, bit-again first)
 
 -- the bytes of a cell, written out

@@ -41,7 +41,6 @@ message-made (Err e) = tt
 
 -- a cell that is read has the message of its twelve bytes
 read-made : (b : List ℕ) → made (readOf b) (λ m. downstreamOf (messagePart b) ≡ Ok m)
-unfolding readOf
 read-made b = then-made _ _ (byCheck (checkedOf b)) _ (any-made (byCheck (checkedOf b))) (λ _ _. message-made (downstreamOf (messagePart b)))
 
 abbrev contents : List ℕ → Downstream → Contents
@@ -83,7 +82,6 @@ parts-kept b h small m e =
     )
 
 cell-made : (b : List ℕ) → ((k : ℕ) → at b k < 256) → made (cellOf b) (Keeps b)
-unfolding cellOf
 cell-made b small =
     test-made (Keeps b) (length b) 48 _ _
     (λ h. then-made (λ m. downstreamOf (messagePart b) ≡ Ok m) (Keeps b) (readOf b) (λ m. Ok (contents b m)) (read-made b) (parts-kept b h small)) tt

@@ -57,7 +57,7 @@ unfolding secondCell
 second-message f = refl
 
 pub frame-again : (f : Frame) → frameOf (frameBytes f) ≡ Ok f
-unfolding frameOf frameBytes
+unfolding frameBytes
 frame-again f =
     let h = halves-again (cellBytes (firstCell f)) (cellBytes (secondCell f)) (cell-length (firstCell f)) (cell-length (secondCell f)) in
     let t : eqb (length (cellBytes (firstCell f) ++ cellBytes (secondCell f))) 96 ≡ true = eq-eqb _ _ (h .2) in

@@ -23,7 +23,7 @@ unfoldable pub grantsIn : List ℕ → Grants 27
 grantsIn b = grantsOf 27 (groupOf First b ++ groupOf Second b ++ groupOf Third b ++ groupOf Fourth b)
 
 -- the contents of a cell, or the first fault: the length, the check bytes in order, the message
-unfoldable pub cellOf : List ℕ → Result Contents CellFault
+abbrev pub cellOf : List ℕ → Result Contents CellFault
 cellOf b =
     cond (eqb (length b) 48)
     (then (readOf b) (λ message. Ok (record { first = firstOf b; grants = grantsIn b; message = message })))

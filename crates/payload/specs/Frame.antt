@@ -39,7 +39,7 @@ byCell (Ok x) = Ok x
 byCell (Err e) = Err (Cell (e .0) (e .1))
 
 -- the contents of a frame, or the first fault: the length, the first cell, the second
-unfoldable pub frameOf : List ℕ → Result Frame FrameFault
+abbrev pub frameOf : List ℕ → Result Frame FrameFault
 frameOf b =
     cond (eqb (length b) 96)
     (then (byCell (inPlace First (between 0 48 b))) (λ first.

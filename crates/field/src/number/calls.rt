@@ -1,14 +1,27 @@
 ghost use mathlib.Core.Path.{_≡_};
-ghost use Prim.Native.Nat.{_≤_};
+ghost use Prim.Native.Nat.{_≤_, min};
+ghost use lib.Dec.{leb};
 ghost use Rattle.field.specs.Number.{upTo, capped};
 use super::Number;
 
 impl<const HIGH: u64> Number<HIGH> {
+    fn holds(value: u64) -> bool
+        ensures { λ r. ⌜ r ≡ leb value HIGH ⌝ }
+    {
+        value <= HIGH
+    }
+
+    fn nearest(value: u64) -> u64
+        ensures { λ r. ⌜ r ≡ min value HIGH ⌝ }
+    {
+        value.min(HIGH)
+    }
+
     // The value, or none where it is above the greatest.
     pub fn new(value: u64) -> Option<Number<HIGH>>
         ensures { λ r. ⌜ r ≡ upTo HIGH value ⌝ }
     {
-        if value <= HIGH {
+        if Self::holds(value) {
             Some(Number { value })
         } else {
             None
@@ -20,7 +33,7 @@ impl<const HIGH: u64> Number<HIGH> {
         ensures { λ r. ⌜ r ≡ capped HIGH value ⌝ }
     {
         Number {
-            value: value.min(HIGH),
+            value: Self::nearest(value),
         }
     }
 

@@ -1,11 +1,9 @@
-use mathlib.Core.Path.{sym}
-use mathlib.Core.Logic.{inl, inr}
-use borrow.Author.Needs.{needs}
-use Rattle.field.proofs.Bounds.{within-in, within-low, within-high}
+use mathlib.Core.Path.{sym, _∙_}
+use Rattle.field.proofs.Bounds.{within-in, within-out}
 use Rattle.field.proofs.bounded.Bounded.new.Needs as need
 
-pub returns-then-value-2 : need.returns-then-value-2
-returns-then-value-2 g c = sym (within-in _ _ _ _ _)
+pub returns-then-holds : need.returns-then-holds
+returns-then-holds g c = sym (within-in _ _ _ _ _)
 
-pub returns-else-value : need.returns-else-value
-returns-else-value g c = search (needs, within-low, within-high)
+pub returns-else-holds : need.returns-else-holds
+returns-else-holds g c = sym (within-out _ _ _ (sym (c .holds .ensures) ∙ c .if-holds .left))

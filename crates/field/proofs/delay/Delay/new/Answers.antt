@@ -1,10 +1,10 @@
-use mathlib.Core.Path.{sym}
-use borrow.Author.Needs.{needs}
+use mathlib.Core.Path.{sym, _∙_}
+use Rattle.std.proofs.shelf.Tests.{leb-false}
 use Rattle.field.proofs.Bounds.{delay-in, delay-out}
 use Rattle.field.proofs.delay.Delay.new.Needs as need
 
-pub returns-then-bits-le32000 : need.returns-then-bits-le32000
-returns-then-bits-le32000 c = sym (delay-in _ _)
+pub returns-then-holds : need.returns-then-holds
+returns-then-holds c = sym (delay-in _ _)
 
-pub returns-else-bits-le32000 : need.returns-else-bits-le32000
-returns-else-bits-le32000 c = search (needs, delay-out)
+pub returns-else-holds : need.returns-else-holds
+returns-else-holds c = sym (delay-out _ (leb-false _ _ (sym (c .holds .ensures) ∙ c .if-holds .left)))

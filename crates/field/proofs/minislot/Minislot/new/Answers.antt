@@ -1,10 +1,9 @@
-use borrow.Author.Needs.{needs}
-use mathlib.Core.Path.{sym}
-use Rattle.field.proofs.Bounds.{minislot-in, minislot-empty, minislot-long}
+use mathlib.Core.Path.{sym, _∙_}
+use Rattle.field.proofs.Bounds.{minislot-in, minislot-out}
 use Rattle.field.proofs.minislot.Minislot.new.Needs as need
 
-pub returns-then-length-offset : need.returns-then-length-offset
-returns-then-length-offset c = sym (minislot-in _ _ _ _)
+pub returns-then-holds : need.returns-then-holds
+returns-then-holds c = sym (minislot-in _ _ _ _)
 
-pub returns-else-length-ge1 : need.returns-else-length-ge1
-returns-else-length-ge1 c = search (needs, minislot-empty, minislot-long)
+pub returns-else-holds : need.returns-else-holds
+returns-else-holds c = sym (minislot-out _ _ (sym (c .holds .ensures) ∙ c .if-holds .left))

@@ -1,10 +1,10 @@
-use mathlib.Core.Path.{sym}
-use borrow.Author.Needs.{needs}
+use mathlib.Core.Path.{sym, _∙_}
+use Rattle.std.proofs.shelf.Tests.{leb-false}
 use Rattle.field.proofs.Bounds.{upTo-in, upTo-out}
 use Rattle.field.proofs.number.Number.new.Needs as need
 
-pub returns-then-value : need.returns-then-value
-returns-then-value g c = sym (upTo-in _ _ _)
+pub returns-then-holds : need.returns-then-holds
+returns-then-holds g c = sym (upTo-in _ _ _)
 
-pub returns-else-value : need.returns-else-value
-returns-else-value g c = search (needs, upTo-out)
+pub returns-else-holds : need.returns-else-holds
+returns-else-holds g c = sym (upTo-out _ _ (leb-false _ _ (sym (c .holds .ensures) ∙ c .if-holds .left)))

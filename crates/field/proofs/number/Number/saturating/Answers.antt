@@ -4,4 +4,4 @@ use Rattle.field.proofs.number.Number.saturating.Needs as need
 
 pub returns : need.returns
 unfolding capped
-returns g c = number-same _ _ _ (c .min .ensures) _ _
+returns g c = number-same _ _ _ (c .nearest .ensures) _ _
