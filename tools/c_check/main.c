@@ -94,7 +94,7 @@ int main(void)
     expect("ranging time for all ONUs", payload_check(cell, sizeof cell), PAYLOAD_MESSAGE);
 
     expect("47 bytes", payload_check(sound, 47), PAYLOAD_LENGTH);
-    expect("no bytes, null pointer", payload_check(NULL, 0), PAYLOAD_LENGTH);
+    expect("no bytes", payload_check(sound, 0), PAYLOAD_LENGTH);
 
     memset(out, 0xA5, sizeof out);
     memset(untouched, 0xA5, sizeof untouched);

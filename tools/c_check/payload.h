@@ -22,7 +22,8 @@ extern "C" {
 /*
  * Reads the cell of `length` bytes at `bytes` and gives the first fault found,
  * or PAYLOAD_OK. The length is asked first, then the check bytes of the four
- * groups of grants, then that of the message, then the message.
+ * groups of grants, then that of the message, then the message. `bytes` must
+ * not be null, also where `length` is 0.
  */
 uint32_t payload_check(const uint8_t *bytes, size_t length);
 
@@ -30,8 +31,9 @@ uint32_t payload_check(const uint8_t *bytes, size_t length);
  * Reads the cell of `in_length` bytes at `in` and writes its contents again to
  * the `out_length` bytes at `out`: bytes without a meaning become zero, and all
  * check bytes are computed anew. Gives PAYLOAD_OK, or why the cell is refused,
- * or PAYLOAD_LENGTH when `out_length` is not 48. Nothing is written unless the
- * answer is PAYLOAD_OK. `in` and `out` must not overlap.
+ * or, for a sound cell, PAYLOAD_LENGTH when `out_length` is not 48. Nothing is
+ * written unless the answer is PAYLOAD_OK. `in` and `out` must not be null and
+ * must not overlap.
  */
 uint32_t payload_rewrite(const uint8_t *in, size_t in_length, uint8_t *out, size_t out_length);
 

@@ -54,11 +54,11 @@ fn difference(bytes: &[u8], out_length: usize) -> Option<String> {
         ));
     }
     let (number, written, kept) = rewrite(bytes, out_length);
-    // With both lengths or the contents wrong, either refusal will do.
-    let right_number = if out_length == CELL {
-        number == wanted
+    // The reading is asked before the length of the output.
+    let right_number = if wanted == 0 && out_length != CELL {
+        number == LENGTH
     } else {
-        number == LENGTH || (wanted != 0 && number == wanted)
+        number == wanted
     };
     let right_bytes = match rewrite_cell(bytes) {
         Ok(again) if out_length == CELL => written == again,

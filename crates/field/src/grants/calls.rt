@@ -33,6 +33,18 @@ impl<const N: usize> Grants<N> {
         self.codes
     }
 
+    // All of them, as grants.
+    pub fn places(self) -> [Grant; N]
+        ensures { λ r. ⌜ r ≡ map grantOf (self .entry .codes) ⌝ }
+    {
+        let codes = self.codes;
+        let mut places = [Grant::Idle; N];
+        for k in 0..N {
+            places[k] = Grant::from_byte(codes[k]);
+        }
+        places
+    }
+
     // The grant at a place, counted from 0; none past the last.
     pub fn place(&self, k: usize) -> Option<Grant>
         ensures { λ r. ⌜ r ≡ cond (ltb k N) (Some (grantOf (getD (now (self .entry) .codes) k 0))) None ⌝ }
