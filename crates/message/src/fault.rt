@@ -35,7 +35,7 @@ pub enum MessageFault {
 
 impl Field {
     // The field's name, as the readable form of a message has it.
-    pub fn name(self) -> &'static str {
+    fn name(self) -> &'static str {
         match self {
             Field::Part => "part",
             Field::GuardBits => "guard",

@@ -21,7 +21,7 @@ pub enum UpstreamFault {
 
 impl UpstreamField {
     // The field's name, as the readable form of a message has it.
-    pub fn name(self) -> &'static str {
+    fn name(self) -> &'static str {
         match self {
             UpstreamField::ZeroByte => "zero",
             UpstreamField::SequenceBits => "sequence",

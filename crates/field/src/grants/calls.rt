@@ -23,7 +23,7 @@ impl<const N: usize> Grants<N> {
         for k in 0..N {
             codes[k] = places[k].byte();
         }
-        Grants { codes }
+        Grants::from_codes(codes)
     }
 
     pub fn codes(self) -> [u8; N]

@@ -7,7 +7,7 @@ use borrow.Author.Needs.{needs}
 use Rattle.field.specs.Grant.{codeOf}
 use Rattle.field.specs.Octets.{grantsOf}
 use Rattle.field.specs.declared.grant.Grant.the-variants.{Idle}
-use Rattle.field.proofs.Runs.{grants-made, map-filled}
+use Rattle.field.proofs.Runs.{map-filled}
 use Rattle.field.proofs.grants.Grants.new.Needs as need
 
 pub loop-k-holds : need.loop-k-holds
@@ -16,5 +16,5 @@ loop-k-holds g c = (length-replicate (g .N) 0, λ j h. absurd (not-suc-le-zero h
 pub returns : need.returns
 returns g c =
     let places : length (c .args .places) ≡ g .N = search needs in
-    grants-made _ _ _
+    c .from-codes .ensures
     ∙ ap (grantsOf (g .N)) (map-filled codeOf Idle 0 (c .args .places) (c .loop-k .codes) (g .N) places (c .loop-k .inv .0) (λ k h. c .loop-k .inv .1 k (omega arith)))
