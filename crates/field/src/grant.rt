@@ -1,12 +1,11 @@
 // A grant: who may send in one upstream slot.
 ghost use mathlib.Core.Path.{_≡_};
 ghost use Rattle.field.specs.Grant.{grantOf, codeOf, Grant-and-byte-agree};
-use crate::bounded::BoundedDebug;
 use crate::bounded::BoundedEq;
 use crate::bounded::BoundedPartialEq;
 use crate::bounded::GrantCode;
 
-#[derive(Clone, Copy, PartialEq, Eq, Debug)]
+#[derive(Clone, Copy, PartialEq, Eq)]
 pub enum Grant {
     // the ONU that was given this code, for data or for a PLOAM cell
     Code(GrantCode),

@@ -4,7 +4,7 @@ ghost use lib.ListN.{length};
 
 pub mod calls;
 
-#[derive(Clone, Copy, PartialEq, Eq, Debug)]
+#[derive(Clone, Copy)]
 pub struct Grants<const N: usize> {
     codes: [u8; N],
     ghost full: { length codes ≡ N },

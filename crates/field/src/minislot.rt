@@ -3,7 +3,7 @@ ghost use Prim.Native.Nat.{_+_, _≤_};
 
 pub mod calls;
 
-#[derive(Clone, Copy, PartialEq, Eq, Debug)]
+#[derive(Clone, Copy)]
 pub struct Minislot {
     offset: u8,
     length: u8,

@@ -3,7 +3,7 @@ ghost use Prim.Native.Nat.{_≤_};
 
 pub mod calls;
 
-#[derive(Clone, Copy, PartialEq, Eq, Debug)]
+#[derive(Clone, Copy)]
 pub struct Number<const HIGH: u64> {
     value: u64,
     ghost high: { value ≤ HIGH },
