@@ -1,4 +1,6 @@
 // A length of fibre before a plant.
+#![tactic(auto)]
+
 ghost use Rattle.std.specs.Prelude.{◌≡◌, ◌≤◌, ◌++◌, map, take, drop, vec_len, vec_capacity};
 ghost use Rattle.field.specs.Number.{capped};
 ghost use Rattle.fibre.specs.Fibre.{far, farther, FibreDoes};

@@ -1,4 +1,6 @@
 // The fields of which cells and messages are made, and the byte that protects them.
+#![tactic(auto)]
+
 pub mod bounded;
 pub mod bytes;
 pub mod check;

@@ -1,4 +1,6 @@
 // A drop before a plant that spoils cells by a pattern.
+#![tactic(auto)]
+
 ghost use Rattle.std.specs.Prelude.{◌≡◌, length};
 ghost use Rattle.plant.specs.Hearing.{Hearing};
 ghost use Rattle.lossy_drop.specs.LossyDrop.{wrong, spoiled, lowest, turned, sent_on, DropDoes};

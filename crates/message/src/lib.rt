@@ -1,3 +1,5 @@
 // The messages that the head sends in the PLOAM channel, twelve bytes each.
+#![tactic(auto)]
+
 pub mod downstream;
 pub mod fault;

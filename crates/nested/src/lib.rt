@@ -1,4 +1,6 @@
 // Plants within plants are plants: one nested line.
+#![tactic(auto)]
+
 ghost use Rattle.std.specs.Prelude.{[], ◌∷◌, OnOk};
 ghost use Rattle.plant.specs.Hearing.{HeardBy};
 ghost use Rattle.fibre.specs.Fibre.{far};

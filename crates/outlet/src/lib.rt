@@ -1,4 +1,6 @@
 // A socket at the end of a line, with a plant in it or with none.
+#![tactic(auto)]
+
 ghost use Rattle.std.specs.Prelude.{◌≡◌};
 ghost use Rattle.outlet.specs.Outlet.{plugged, OutletDoes};
 ghost use Rattle.outlet.specs.Outlets.{outlet_lawful};

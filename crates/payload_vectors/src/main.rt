@@ -1,4 +1,6 @@
 // Holds stored vectors of another implementation against this one.
+#![tactic(auto)]
+
 use crate::tally::Tally;
 use std::io;
 use std::io::{BufRead, BufReader};

@@ -1,4 +1,6 @@
 // Reads PLOAM cells as text, and writes such text as cells.
+#![tactic(auto)]
+
 use crate::lines::run;
 use crate::reader::Reader;
 use crate::writer::Writer;

@@ -1,4 +1,6 @@
 // Cells and their messages as lines of text, and such lines read back.
+#![tactic(auto)]
+
 pub mod cell;
 pub mod hex;
 pub mod key;

@@ -1,6 +1,8 @@
 // Reads each line of standard input as a cell and prints it again, or what was wanted in it.
 // A line that begins with `hex` has bytes in its other words, which are printed as digits;
 // one that begins with `upstream` has the twelve bytes of a message from an ONU.
+#![tactic(auto)]
+
 use readable::cell::Cell;
 use readable::hex::NotHex;
 use readable::{hex, parse, show};

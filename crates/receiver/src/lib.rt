@@ -1,2 +1,4 @@
 // The bench receiver: it makes a frame's report of the bursts that came.
+#![tactic(auto)]
+
 pub mod receive;

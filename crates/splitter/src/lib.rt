@@ -1,4 +1,6 @@
 // Two plants on one line.
+#![tactic(auto)]
+
 ghost use Rattle.std.specs.Prelude.{◌≡◌, ◌+◌, length};
 ghost use Rattle.splitter.specs.Splitter.{joined, SplitDoes};
 ghost use Rattle.splitter.specs.Splits.{joined_few, joined_sound, split_lawful};

@@ -1,4 +1,6 @@
 // A splitter with any number of arms.
+#![tactic(auto)]
+
 ghost use Rattle.std.specs.Prelude.{◌≡◌, ◌-◌, ◌*◌, ◌<◌, ◌≤◌, List, [], ◌++◌, length, vec_len, vec_capacity, refl};
 ghost use Rattle.plant.specs.declared.burst.Burst.{Burst as Light};
 ghost use Rattle.star.specs.Star.{lit_in, lighted, Arms};

@@ -1,4 +1,6 @@
 // Runs a script over a line of bench ONUs.
+#![tactic(auto)]
+
 use std::io;
 use tree_script::run::run;
 

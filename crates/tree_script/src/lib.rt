@@ -1,4 +1,6 @@
 // A line of bench ONUs, driven by a script of lines and told as lines.
+#![tactic(auto)]
+
 mod command;
 pub mod run;
 mod shown;

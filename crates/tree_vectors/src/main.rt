@@ -1,4 +1,6 @@
 // The stored scripts, whose answers another implementation wrote.
+#![tactic(auto)]
+
 use std::io;
 use tree_script::run::run;
 

@@ -1,3 +1,5 @@
 // The messages that an ONU sends in the PLOAM channel, twelve bytes each.
+#![tactic(auto)]
+
 pub mod fault;
 pub mod message;
