@@ -9,8 +9,8 @@ use Rattle.field.proofs.check.after_byte.Goals as goal
 below : (a b : ℕ) → a < 2 ^ 8 → b < 2 ^ 8 → bit_xor a b < 256
 below a b h k = xor_lt 8 a b h k
 
-pub overflow-cast-result : goal.overflow-cast-result
-overflow-cast-result c = search (rules, below)
+pub overflow_cast-result : goal.overflow_cast-result
+overflow_cast-result c = search (rules, below)
 
 pub bounds-check : goal.bounds-check
 bounds-check c = search (rules, below)

@@ -6,4 +6,4 @@ use Rattle.field.proofs.check.check_byte_and.Goals as goal
 
 pub returns : goal.returns
 returns c =
-    c.after-byte.ensures ∙ ap (λ k. shifted (bit_xor k c.args.byte)) c.check-byte.ensures ∙ sym (check_push c.args.bytes.now c.args.byte (search rules))
+    c.after_byte.ensures ∙ ap (λ k. shifted (bit_xor k c.args.byte)) c.check_byte.ensures ∙ sym (check_push c.args.bytes.now c.args.byte (search rules))

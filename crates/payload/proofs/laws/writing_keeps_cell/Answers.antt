@@ -2,8 +2,8 @@ use Rattle.std.proofs.Common.{rules}
 use Rattle.payload.proofs.CellKept.{cell_keeps}
 use Rattle.payload.proofs.laws.writing_keeps_cell.Goals as goal
 
-pub returns-in-err-contents : goal.returns-in-err-contents
-returns-in-err-contents c = record { result = search rules; law = cell_keeps }
+pub returns-in_err-contents : goal.returns-in_err-contents
+returns-in_err-contents c = record { result = search rules; law = cell_keeps }
 
 pub returns : goal.returns
 returns c = record { result = search rules; law = cell_keeps }

@@ -25,4 +25,4 @@ returns g c =
     let few : length xs + length ys ≤ 64 = omega arith in
     let room : 27 * (length xs + length ys) ≤ room_in c.args.bursts.now = omega arith in
     split_both g.P.Plant.means g.Q.Plant.means g.P.Plant.does g.Q.Plant.does c.args.self.now _ _ _ _ _ _ _ _ g.met.P.Plant.lawful
-    few (omega arith) room c.if-first-ge14918173765664768.false c.in-ok-hear.ensures c.hear-3.ensures
+    few (omega arith) room c.if-first-ge14918173765664768.false c.in_ok-hear.ensures c.hear-3.ensures
