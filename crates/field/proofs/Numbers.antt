@@ -17,7 +17,7 @@ pub serial_again : (a k f : ℕ) (x : Number 18446744073709551615) → serial_of
 serial_again a k f x = capped_is x _ (number_again x.value x.high)
 
 -- a count from its four bytes
-count_again : (n : ℕ) → n ≤ 4294967295 → n / 16777216 % 256 * 16777216 + n / 65536 % 256 * 65536 + n / 256 % 256 * 256 + n % 256 ≡ n
+pub count_again : (n : ℕ) → n ≤ 4294967295 → n / 16777216 % 256 * 16777216 + n / 65536 % 256 * 65536 + n / 256 % 256 * 256 + n % 256 ≡ n
 count_again n h =
     let a : n ≡ n / 256 * 256 + n % 256 = omega arith in
     let b : n / 256 ≡ n / 65536 * 256 + n / 256 % 256 = omega arith in
