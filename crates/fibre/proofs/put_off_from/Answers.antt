@@ -7,7 +7,7 @@ pub returns : goal.returns
 returns c =
     record {
       items =
-          end_changed (farther c.args.bits.value) c.args.from c.len-n.result c.as-mut-slice-all.result.now c.put-all-off.new.bursts _
-          (c.len-n.ensures ∙ sym c.as-mut-slice-all.ensures.len) (omega arith) c.put-all-off.ensures _ _ (sym c.len-n.ensures) c.as-mut-slice-all.ensures.value;
+          end_changed (farther c.args.bits.value) c.args.from c.len-n.result c.as_mut_slice-all.result.now c.put_all_off.new.bursts _
+          (c.len-n.ensures ∙ sym c.as_mut_slice-all.ensures.len) (omega arith) c.put_all_off.ensures _ _ (sym c.len-n.ensures) c.as_mut_slice-all.ensures.value;
       cap = search rules;
     }

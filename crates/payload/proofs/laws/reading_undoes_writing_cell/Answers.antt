@@ -6,4 +6,4 @@ use Rattle.payload.proofs.laws.reading_undoes_writing_cell.Goals as goal
 
 pub returns : goal.returns
 returns c =
-    record { result = c.read-cell.ensures ∙ ap cell_of c.write-cell.ensures.bytes ∙ cell_again c.args.contents.now; law = (cell_again, frame_again) }
+    record { result = c.read_cell.ensures ∙ ap cell_of c.write_cell.ensures.bytes ∙ cell_again c.args.contents.now; law = (cell_again, frame_again) }

@@ -6,4 +6,4 @@ use Rattle.payload.proofs.laws.reading_undoes_writing_frame.Goals as goal
 
 pub returns : goal.returns
 returns c =
-    record { result = c.read-frame.ensures ∙ ap frame_of c.write-frame.ensures.bytes ∙ frame_again c.args.frame.now; law = (cell_again, frame_again) }
+    record { result = c.read_frame.ensures ∙ ap frame_of c.write_frame.ensures.bytes ∙ frame_again c.args.frame.now; law = (cell_again, frame_again) }

@@ -6,4 +6,4 @@ use Rattle.onu.proofs.state.Onu.number_octets.Goals as goal
 
 pub returns : goal.returns
 unfolding number_octets
-returns c = c.new.ensures ∙ ap (octets_of 12) (c.write.ensures ∙ ap bytes_of c.number-message.ensures)
+returns c = c.new.ensures ∙ ap (octets_of 12) (c.write.ensures ∙ ap bytes_of c.number_message.ensures)

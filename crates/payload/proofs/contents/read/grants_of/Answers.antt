@@ -10,5 +10,5 @@ pub returns : goal.returns
 unfolding grants_in
 returns c =
     let b = c.args.cell.now.bytes.now in
-    c.from-codes.ensures
+    c.from_codes.ensures
     ∙ ap (grants_of 27) (four_pieces (group_of First b) (group_of Second b) (group_of Third b) (group_of Fourth b) c.put.new.out c.put-2.new.out c.put-3.new.out c.put-4.new.out (cc) (cc) (cc) (cc) (search rules))

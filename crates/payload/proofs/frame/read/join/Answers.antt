@@ -8,5 +8,5 @@ use Rattle.payload.proofs.frame.read.join.Goals as goal
 pub returns : goal.returns
 unfolding joined
 returns c =
-    c.from-codes.ensures
+    c.from_codes.ensures
     ∙ ap (grants_of 53) (two_pieces c.args.first.codes (between 0 26 c.args.second.codes) c.put.new.out c.put-2.new.out 27 53 (cc) (cc) (search rules))

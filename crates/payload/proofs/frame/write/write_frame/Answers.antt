@@ -9,5 +9,5 @@ unfolding frame_bytes
 returns c =
     let n : length c.args.out.now ≡ 96 = search rules in
     let t : eqb (length c.args.out.now) 96 ≡ true = eq-eqb _ _ n in
-    let e = halves c.args.out.now c.fill-cell.new.out c.fill-cell-2.new.out n (search rules) (search rules) in
+    let e = halves c.args.out.now c.fill_cell.new.out c.fill_cell-2.new.out n (search rules) (search rules) in
     record { result = rw t; bytes = rw t (e ∙ cc) }
