@@ -70,11 +70,11 @@ impl<P: Plant> Plant for Fibre<P> {
 
     ghost does = { λ s p f t new. FibreDoes P.Plant.does s.plant s.bits p f t.plant t.bits new };
 
-    ghost few = { λ x. few-far x.bits.value _ (P.Plant.few x.plant) };
+    ghost few = { λ x. few_far x.bits.value _ (P.Plant.few x.plant) };
 
-    ghost sound = { λ x. sound-far x.bits.value (P.Plant.means x.plant) (P.Plant.sound x.plant) };
+    ghost sound = { λ x. sound_far x.bits.value (P.Plant.means x.plant) (P.Plant.sound x.plant) };
 
-    ghost lawful = { λ x y p f new l h d. fibre-lawful P.Plant.means P.Plant.does P.Plant.lawful x.plant y.plant x.bits y.bits p f new l h d };
+    ghost lawful = { λ x y p f new l h d. fibre_lawful P.Plant.means P.Plant.does P.Plant.lawful x.plant y.plant x.bits y.bits p f new l h d };
 
     fn count(&self) -> usize {
         self.plant.count()

@@ -217,15 +217,15 @@ module _ {n : ℕ} {gs : List ℕ} {m : Option Downstream} where
       (subst (λ (ws : List Burst). Hears n gs m (o ∷ os) (by_moves c.before o ∷ os') (ws ++ bs)) (sym e) (more (lost c) (deaf h)))
 
 module _ {X : Type 0} (means : X → List Onu) (D : Does X) (law : Lawful means D) (x y : X) (p : List ℕ) (f : ℕ) (new : List Burst) (l : length p ≡ 48) (h : f < 14918173765664768) where
-  drop-case : (v : Bool) → D x (cond v (spoiled p) p) f y new → HearsCell p f (means x) (means y) new
-  drop-case true d =
+  drop_case : (v : Bool) → D x (cond v (spoiled p) p) f y new → HearsCell p f (means x) (means y) new
+  drop_case true d =
       deaf (subst (λ (q : Option Downstream). Hears f (replicate 27 (code_of Idle)) q (means x) (means y) new) (spoiled_message p l)
       (subst (λ (hs : List ℕ). Hears f hs (heard_message (spoiled p)) (means x) (means y) new) (spoiled_grants p l)
       (law x y (spoiled p) f new (spoiled-length p l) h d)))
-  drop-case false d = law x y p f new l h d
+  drop_case false d = law x y p f new l h d
 
-  pub drop-lawful : (pattern : ℕ) → D x (sent_on pattern p) f y new → HearsCell p f (means x) (means y) new
-  drop-lawful pattern d = drop-case (lowest pattern) d
+  pub drop_lawful : (pattern : ℕ) → D x (sent_on pattern p) f y new → HearsCell p f (means x) (means y) new
+  drop_lawful pattern d = drop_case (lowest pattern) d
 
 sent-length : (n : ℕ) (p : List ℕ) → length p ≡ 48 → length (sent_on n p) ≡ length p
 sent-length n p l = elim (lowest n) as (λ (v : Bool). length (cond v (spoiled p) p) ≡ length p) [ true ↦ spoiled-length p l ∙ sym l | false ↦ refl ]
@@ -234,16 +234,16 @@ module _ {X : Type 0} (D : Does X) (count : ℕ) (s : LossyDrop X) (y : X) (p : 
   abbrev pub lossy : Does (LossyDrop X)
   lossy u q g t new = DropDoes D u.plant u.pattern q g t.plant t.pattern new
 
-  pub drop-ok : (k : ℕ) → k ≡ turned s.pattern → Hearing D count s.plant (sent_on s.pattern p) f b y b' (Ok tt) → Hearing lossy count s p f b (record { plant = y; pattern = k }) b' (Ok tt)
-  drop-ok k e h =
+  pub drop_ok : (k : ℕ) → k ≡ turned s.pattern → Hearing D count s.plant (sent_on s.pattern p) f b y b' (Ok tt) → Hearing lossy count s p f b (record { plant = y; pattern = k }) b' (Ok tt)
+  drop_ok k e h =
       record {
         answer = h.answer ∙ ap (λ (i : ℕ). asked i (room_in b) count f) (sent-length s.pattern p l);
         room = h.room;
         after = (h.after.0, h.after.1, (h.after.2, e));
       }
 
-  pub drop-err : (e : HearFault) → Hearing D count s.plant (sent_on s.pattern p) f b y b' (Err e) → Hearing lossy count s p f b (record { plant = y; pattern = s.pattern }) b' (Err e)
-  drop-err e h =
+  pub drop_err : (e : HearFault) → Hearing D count s.plant (sent_on s.pattern p) f b y b' (Err e) → Hearing lossy count s p f b (record { plant = y; pattern = s.pattern }) b' (Err e)
+  drop_err e h =
       record {
         answer = h.answer ∙ ap (λ (i : ℕ). asked i (room_in b) count f) (sent-length s.pattern p l);
         room = h.room;

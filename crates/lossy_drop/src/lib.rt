@@ -4,7 +4,7 @@
 ghost use Rattle.std.specs.Prelude.{◌≡◌, length};
 ghost use Rattle.plant.specs.Hearing.{Hearing};
 ghost use Rattle.lossy_drop.specs.LossyDrop.{wrong, spoiled, lowest, turned, sent_on, DropDoes};
-ghost use Rattle.lossy_drop.specs.Deaf.{drop-lawful};
+ghost use Rattle.lossy_drop.specs.Deaf.{drop_lawful};
 ghost use Rattle.std.proofs.Common.{rules};
 
 use field::check::{check_byte, check_byte_and_zero};
@@ -89,7 +89,7 @@ impl<P: Plant> Plant for LossyDrop<P> {
 
     ghost sound = { Prim.search rules };
 
-    ghost lawful = { λ x y p f new l h d. drop-lawful P.Plant.means P.Plant.does P.Plant.lawful x.plant y.plant p f new l h x.pattern d.0 };
+    ghost lawful = { λ x y p f new l h d. drop_lawful P.Plant.means P.Plant.does P.Plant.lawful x.plant y.plant p f new l h x.pattern d.0 };
 
     fn count(&self) -> usize {
         self.plant.count()

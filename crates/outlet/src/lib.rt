@@ -25,7 +25,7 @@ impl<P: Plant> Plant for Outlet<P> {
 
     ghost sound = { Prim.search rules };
 
-    ghost lawful = { λ x y p f new l h d. outlet-lawful P.Plant.means P.Plant.does P.Plant.lawful x y p f new l h d };
+    ghost lawful = { λ x y p f new l h d. outlet_lawful P.Plant.means P.Plant.does P.Plant.lawful x y p f new l h d };
 
     fn count(&self) -> usize {
         match self {

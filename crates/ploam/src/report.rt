@@ -1,7 +1,6 @@
 // What is said of a line or a cell that cannot be answered otherwise.
 use cell::fault::{CellFault, Place};
 use readable::show;
-use readable::show::fault::appended;
 use std::alloc::AllocError;
 
 // Where a cell stood in the input: alone in its line, or as one of two.
@@ -14,15 +13,15 @@ pub enum Source {
 // Appends the place and a colon.
 pub fn at(source: Source, out: &mut String) -> Result<(), AllocError> {
     match source {
-        Source::Line(line) => appended(write!(out, "line {line}: ")),
+        Source::Line(line) => write!(out, "line {line}: "),
         Source::Half {
             line,
             cell: Place::First,
-        } => appended(write!(out, "line {line} cell 1: ")),
+        } => write!(out, "line {line} cell 1: "),
         Source::Half {
             line,
             cell: Place::Second,
-        } => appended(write!(out, "line {line} cell 2: ")),
+        } => write!(out, "line {line} cell 2: "),
     }
 }
 

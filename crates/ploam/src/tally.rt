@@ -1,7 +1,6 @@
 // How much was read, and what was wrong with the rest.
 use cell::fault::CellFault;
 use readable::kind::{KINDS, Kind};
-use readable::show::fault::appended;
 use std::alloc::AllocError;
 
 #[derive(Clone, Copy)]
@@ -17,7 +16,7 @@ pub struct Tally {
 
 // Appends a line with a name and a count.
 fn counted(out: &mut String, name: &str, count: u64) -> Result<(), AllocError> {
-    appended(writeln!(out, "{name}: {count}"))
+    writeln!(out, "{name}: {count}")
 }
 
 impl Tally {

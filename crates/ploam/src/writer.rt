@@ -9,7 +9,6 @@ use field::grants::Grants;
 use payload::contents::Contents;
 use payload::contents::write::write_cell;
 use readable::cell::Cell;
-use readable::show::fault::appended;
 use readable::wanted::Wanted;
 use readable::{hex, parse};
 use std::alloc::AllocError;
@@ -41,7 +40,7 @@ fn show_hex(cell: &Cell, out: &mut String) -> Result<(), AllocError> {
 
 fn refuse(line: u64, wanted: Wanted, out: &mut String) -> Result<(), AllocError> {
     report::at(Source::Line(line), out)?;
-    appended(writeln!(out, "{wanted}"))
+    writeln!(out, "{wanted}")
 }
 
 impl Answers for Writer {

@@ -29,11 +29,11 @@ impl<P: Plant, Q: Plant> Plant for Splitter<P, Q> {
 
     ghost does = { λ s p f t new. SplitDoes P.Plant.does Q.Plant.does (length (P.Plant.means s.one) + length (Q.Plant.means s.two)) s.one s.two p f t.one t.two new };
 
-    ghost few = { λ x. joined-few _ _ (P.Plant.few x.one) };
+    ghost few = { λ x. joined_few _ _ (P.Plant.few x.one) };
 
-    ghost sound = { λ x. joined-sound (P.Plant.means x.one) (Q.Plant.means x.two) (P.Plant.sound x.one) (Q.Plant.sound x.two) };
+    ghost sound = { λ x. joined_sound (P.Plant.means x.one) (Q.Plant.means x.two) (P.Plant.sound x.one) (Q.Plant.sound x.two) };
 
-    ghost lawful = { λ x y p f new l h d. split-lawful P.Plant.means Q.Plant.means P.Plant.does Q.Plant.does P.Plant.lawful Q.Plant.lawful x.one y.one x.two y.two p f new l h d };
+    ghost lawful = { λ x y p f new l h d. split_lawful P.Plant.means Q.Plant.means P.Plant.does Q.Plant.does P.Plant.lawful Q.Plant.lawful x.one y.one x.two y.two p f new l h d };
 
     fn count(&self) -> usize {
         let one = self.one.count();

@@ -63,11 +63,11 @@ impl<P: Plant> Plant for Star<P> {
 
     ghost does = { λ s p f t new. Arms P.Plant.means P.Plant.does p f 0 s.arms.items t.arms.items new };
 
-    ghost few = { λ x. lighted-few P.Plant.means [] x.arms.items (omega arith) };
+    ghost few = { λ x. lighted_few P.Plant.means [] x.arms.items (omega arith) };
 
-    ghost sound = { λ x. lighted-sound P.Plant.means P.Plant.sound [] x.arms.items refl };
+    ghost sound = { λ x. lighted_sound P.Plant.means P.Plant.sound [] x.arms.items refl };
 
-    ghost lawful = { λ x y p f new l h d. star-lawful P.Plant.means P.Plant.does p f P.Plant.lawful l h d };
+    ghost lawful = { λ x y p f new l h d. star_lawful P.Plant.means P.Plant.does p f P.Plant.lawful l h d };
 
     fn count(&self) -> usize {
         count_lit(self.arms.as_slice())

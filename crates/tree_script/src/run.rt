@@ -23,13 +23,6 @@ struct Script {
 
 const ROOM: usize = 65536;
 
-fn appended(done: Result<(), std::fmt::Error>) -> Result<(), AllocError> {
-    match done {
-        Ok(()) => Ok(()),
-        Err(_) => Err(AllocError),
-    }
-}
-
 impl Script {
     fn new(heap: Global) -> Result<Script, AllocError> {
         let tree = Tree::new(heap)?;
@@ -69,7 +62,7 @@ impl Script {
         for burst in self.bursts.iter().skip(from) {
             self.sent = self.sent.saturating_add(1);
             let shown = ShownBurst { burst };
-            appended(writeln!(out, "{cell}: {shown}"))?;
+            writeln!(out, "{cell}: {shown}")?;
         }
         Ok(())
     }
@@ -81,7 +74,7 @@ impl Script {
             let old = before[port];
             let new = after[port];
             if old != new {
-                appended(writeln!(out, "{cell}: port {port} O{old} -> O{new}"))?;
+                writeln!(out, "{cell}: port {port} O{old} -> O{new}")?;
             }
         }
         Ok(())
@@ -101,7 +94,7 @@ impl Script {
                 self.refused = self.refused.saturating_add(1);
                 let cell = self.cells;
                 let number = fault.number();
-                appended(writeln!(out, "{cell}: refused {number}"))
+                writeln!(out, "{cell}: refused {number}")
             }
         }
     }
@@ -112,7 +105,7 @@ impl Script {
             return Ok(());
         };
         let Some(before) = self.tree.look(port) else {
-            return appended(writeln!(out, "port {port}: empty"));
+            return writeln!(out, "port {port}: empty");
         };
         self.tree.change(port, change);
         let old = before.state.number();
@@ -123,14 +116,14 @@ impl Script {
         if old == new {
             return Ok(());
         }
-        appended(writeln!(out, "port {port} O{old} -> O{new}"))
+        writeln!(out, "port {port} O{old} -> O{new}")
     }
 
     fn show(&self, out: &mut String) -> Result<(), AllocError> {
         for port in 0..PORTS {
             if let Some(onu) = self.tree.look(port) {
                 let shown = ShownOnu { onu: &onu };
-                appended(writeln!(out, "port {port} {shown}"))?;
+                writeln!(out, "port {port} {shown}")?;
             }
         }
         Ok(())
@@ -141,11 +134,11 @@ impl Script {
         match receive(frame, self.bursts.as_slice(), marks, &mut report) {
             Ok(()) => {
                 let shown = Hex { bytes: &report };
-                appended(writeln!(out, "report {frame}: {shown}"))
+                writeln!(out, "report {frame}: {shown}")
             }
             Err(fault) => {
                 let number = fault.number();
-                appended(writeln!(out, "report {frame}: refused {number}"))
+                writeln!(out, "report {frame}: refused {number}")
             }
         }
     }
@@ -191,10 +184,10 @@ impl Script {
         }
         match read(self.heap, text) {
             Ok(command) => self.act(command, out),
-            Err(NoCommand::Expected(what)) => appended(writeln!(
+            Err(NoCommand::Expected(what)) => writeln!(
                 out,
                 "line {number}: expected {what}"
-            )),
+            ),
             Err(NoCommand::Memory) => Err(AllocError),
         }
     }

@@ -77,7 +77,7 @@ impl Plant for BenchOnu {
 
     ghost sound = { first_of (Prim.search rules, Prim.grind (arith, Self.row.coded.inj)) };
 
-    ghost lawful = { λ x y p f new l h d. bench-lawful x.machine y.machine p f new d };
+    ghost lawful = { λ x y p f new l h d. bench_lawful x.machine y.machine p f new d };
 
     fn count(&self) -> usize {
         1

@@ -15,12 +15,12 @@ pub fn appended(res: fmt::Result) -> Result<(), AllocError> {
 // Appends `fault 15 length`, `fault 16 group=3` or `fault 17 identifier=17`.
 pub fn cell(out: &mut String, fault: CellFault) -> Result<(), AllocError> {
     let number = fault.number();
-    appended(write!(out, "fault {number} "))?;
+    write!(out, "fault {number} ")?;
     match fault {
         CellFault::Length => out.push_str("length"),
         CellFault::Check(check) => {
             let group = check.group();
-            appended(write!(out, "group={group}"))
+            write!(out, "group={group}")
         }
         CellFault::Message(why) => message_fault(out, why),
     }

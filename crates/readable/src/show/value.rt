@@ -14,10 +14,7 @@ use std::alloc::AllocError;
 pub(crate) fn decimal(out: &mut String, value: u64) -> Result<(), AllocError>
     ensures { OnOk result (string_bytes out.new ≡ string_bytes out.old ++ digits value) }
 {
-    match write!(out, "{value}") {
-        Ok(()) => Ok(()),
-        Err(_) => Err(AllocError),
-    }
+    write!(out, "{value}")
 }
 
 // A blank, the key and its sign.
