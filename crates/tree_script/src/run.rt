@@ -184,10 +184,7 @@ impl Script {
         }
         match read(self.heap, text) {
             Ok(command) => self.act(command, out),
-            Err(NoCommand::Expected(what)) => writeln!(
-                out,
-                "line {number}: expected {what}"
-            ),
+            Err(NoCommand::Expected(what)) => writeln!(out, "line {number}: expected {what}"),
             Err(NoCommand::Memory) => Err(AllocError),
         }
     }
