@@ -5,7 +5,7 @@ root=$(cd "$(dirname "$0")/.." && pwd)
 PAYLOAD_LIB_DIR=${PAYLOAD_LIB_DIR:-$root/target/staticlib}
 export PAYLOAD_LIB_DIR
 if [ ! -f "$PAYLOAD_LIB_DIR/libpayload.a" ]; then
-    (cd "$root" && rt staticlib payload)
+    "$root/tools/library.sh"
 fi
 cargo build --quiet --offline --release -j 1 --manifest-path "$root/tools/bench/Cargo.toml"
 exec "$root/tools/bench/target/release/bench" "$@"

@@ -4,8 +4,9 @@ set -eu
 root=$(cd "$(dirname "$0")/.." && pwd)
 count=${1:-1000000}
 start=${2:-2}
-if [ ! -x "$root/target/bin/payload_vectors" ]; then
-    (cd "$root" && rt check payload_vectors)
+program=$root/crates/payload_vectors/out/payload_vectors
+if [ ! -x "$program" ]; then
+    (cd "$root/crates/payload_vectors" && rt run >&2)
 fi
 cargo build --quiet --offline --release -j 1 --manifest-path "$root/tools/codec/Cargo.toml"
-"$root/tools/codec/target/release/vectors" "$start" "$count" | "$root/target/bin/payload_vectors"
+"$root/tools/codec/target/release/vectors" "$start" "$count" | "$program"

@@ -5,7 +5,7 @@ here=$(cd "$(dirname "$0")" && pwd)
 root=$(cd "$here/../.." && pwd)
 folder=${PAYLOAD_LIB_DIR:-$root/target/staticlib}
 if [ ! -f "$folder/libpayload.a" ]; then
-    (cd "$root" && rt staticlib payload)
+    "$root/tools/library.sh"
 fi
 work=$(mktemp -d)
 trap 'rm -rf "$work"' EXIT
