@@ -64,12 +64,12 @@ impl Answer {
         };
         match Upstream::read(twelve) {
             Ok(message) => {
-                show::upstream::message(&mut answer.text, &message)?;
+                show::uplink::message(&mut answer.text, &message)?;
                 push_digits(&mut answer.again, &message.write())?;
             }
             Err(fault) => {
                 answer.text.push_str("fault 17 ")?;
-                show::upstream::fault(&mut answer.text, fault)?;
+                show::uplink::fault(&mut answer.text, fault)?;
                 answer.again.push('-')?;
             }
         }
@@ -92,12 +92,12 @@ fn show_cell(answer: &mut Answer, contents: &Contents) -> Result<(), AllocError>
 }
 
 fn show_frame(answer: &mut Answer, frame: &Frame) -> Result<(), AllocError> {
-    answer.text.push_str("frame grants=")?;
-    show::grant_runs(&mut answer.text, &frame.grants.places())?;
-    answer.text.push(' ')?;
-    show::message(&mut answer.text, &frame.first)?;
-    answer.text.push_str(" ; ")?;
-    show::message(&mut answer.text, &frame.second)?;
+    show::frame(
+        &mut answer.text,
+        &frame.grants.places(),
+        &frame.first,
+        &frame.second,
+    )?;
     let mut out = [0; 96];
     match write_frame(frame, &mut out) {
         Ok(()) => push_digits(&mut answer.again, &out),

@@ -8,7 +8,7 @@ use crate::report::Source;
 use field::grants::Grants;
 use payload::contents::Contents;
 use payload::contents::write::write_cell;
-use readable::cell::Cell;
+use readable::line::Cell;
 use readable::wanted::Wanted;
 use readable::{hex, parse};
 use std::alloc::AllocError;

@@ -1,3 +1,4 @@
 pub mod Names
 pub mod Shown
+pub mod Fault
 pub mod Upstream

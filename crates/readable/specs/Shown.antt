@@ -124,3 +124,8 @@ with_grants line (g ∷ rest) = with_runs line g 1 rest
 abbrev pub with_cell : List ℕ → Bool → List Grant → Downstream → List ℕ
 with_cell line first grants message =
     with_message (with_grants (keyed (with_fields (line ++ codes "cell") (flag key.Bit first ∷ [])) key.Grants) grants ++ codes " ") message
+
+-- a line with a frame: its grants and the messages of both cells
+abbrev pub with_frame : List ℕ → List Grant → (first second : Downstream) → List ℕ
+with_frame line grants first second =
+    with_message (with_message (with_grants (keyed (line ++ codes "frame") key.Grants) grants ++ codes " ") first ++ codes " ; ") second

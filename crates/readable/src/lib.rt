@@ -1,10 +1,10 @@
 // Cells and their messages as lines of text, and such lines read back.
 #![tactic(auto)]
 
-pub mod cell;
 pub mod hex;
 pub mod key;
 pub mod kind;
+pub mod line;
 pub mod parse;
 mod run;
 pub mod show;

@@ -1,7 +1,7 @@
 // A line of text read as a cell. What is read is what `show` prints, with any blanks between the words.
-use crate::cell::Cell;
 use crate::key::Key;
 use crate::kind::Kind;
+use crate::line::Cell;
 use crate::parse::downstream::fields;
 use crate::parse::row::Row;
 use crate::parse::value::{flag, text};

@@ -1,7 +1,7 @@
 // Cells, messages and faults as text, appended to a line.
 ghost use Rattle.std.specs.Prelude.{◌≡◌, ◌++◌, string_bytes, decimal as digits, OnOk};
 ghost use Rattle.readable.specs.Names.{kind_name, kind_of, key_of};
-ghost use Rattle.readable.specs.Shown.{with_message, with_grants, with_cell, with_fault};
+ghost use Rattle.readable.specs.Shown.{with_message, with_grants, with_cell, with_frame, with_fault};
 
 use crate::key::Key;
 use crate::kind::Kind;
@@ -15,7 +15,7 @@ use std::alloc::AllocError;
 
 mod downstream;
 pub mod fault;
-pub mod upstream;
+pub mod uplink;
 pub(crate) mod value;
 
 // Appends the grants, each run of equal ones once: `5*3,69,idle*2`.
@@ -66,6 +66,24 @@ pub fn cell(
     grant_runs(out, grants)?;
     out.push_str(" ")?;
     message(out, contents)
+}
+
+// Appends a whole frame.
+pub fn frame(
+    out: &mut String,
+    grants: &[Grant],
+    first: &Downstream,
+    second: &Downstream,
+) -> Result<(), AllocError>
+    ensures { OnOk result (string_bytes out.new ≡ with_frame (string_bytes out.old) grants.now first.now second.now) }
+{
+    out.push_str("frame")?;
+    label(out, Key::Grants)?;
+    grant_runs(out, grants)?;
+    out.push_str(" ")?;
+    message(out, first)?;
+    out.push_str(" ; ")?;
+    message(out, second)
 }
 
 // The key of a field that can be out of range.

@@ -3,8 +3,8 @@
 // one that begins with `upstream` has the twelve bytes of a message from an ONU.
 #![tactic(auto)]
 
-use readable::cell::Cell;
 use readable::hex::NotHex;
+use readable::line::Cell;
 use readable::{hex, parse, show};
 use std::alloc::{AllocError, Global};
 use std::io;
@@ -35,8 +35,8 @@ fn upstream_line(heap: Global, bytes: &[u8]) -> Result<String, AllocError> {
         return Ok(out);
     };
     match Upstream::read(twelve) {
-        Ok(message) => show::upstream::message(&mut out, &message)?,
-        Err(fault) => show::upstream::fault(&mut out, fault)?,
+        Ok(message) => show::uplink::message(&mut out, &message)?,
+        Err(fault) => show::uplink::fault(&mut out, fault)?,
     }
     Ok(out)
 }

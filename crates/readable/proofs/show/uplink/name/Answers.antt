@@ -1,6 +1,6 @@
 -- Each text is that of the message.
 use Rattle.std.proofs.Common.{refl}
-use Rattle.readable.proofs.show.upstream.name.Goals as goal
+use Rattle.readable.proofs.show.uplink.name.Goals as goal
 
 pub returns-in-SerialNumberOnu : goal.returns-in-SerialNumberOnu
 returns-in-SerialNumberOnu c = rw c.in-SerialNumberOnu.is refl
