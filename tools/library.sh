@@ -1,10 +1,7 @@
 #!/bin/sh
-# Proves and builds the C library, target/staticlib/libpayload.a, where it isn't there yet.
+# Proves and builds the C library, target/staticlib/libpayload.a.
 set -eu
 root=$(cd "$(dirname "$0")/.." && pwd)
-library=$root/target/staticlib/libpayload.a
-if [ ! -f "$library" ]; then
-    (cd "$root/crates/payload_c" && rt lib >&2)
-    mkdir -p "$root/target/staticlib"
-    cp "$root/crates/payload_c/out/libpayload_c.a" "$library"
-fi
+(cd "$root/crates/payload_c" && rt lib >&2)
+mkdir -p "$root/target/staticlib"
+cp "$root/crates/payload_c/out/libpayload_c.a" "$root/target/staticlib/libpayload.a"

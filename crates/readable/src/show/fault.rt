@@ -42,7 +42,7 @@ pub fn cell(out: &mut String, fault: CellFault) -> Result<(), AllocError>
     cause(out, fault)
 }
 
-fn name(place: Place) -> &'static str
+fn place_text(place: Place) -> &'static str
     ensures { result.now ≡ place_name place }
 {
     match place {
@@ -58,7 +58,7 @@ pub fn frame(out: &mut String, fault: FrameFault) -> Result<(), AllocError>
     match fault {
         FrameFault::Length => cell(out, CellFault::Length),
         FrameFault::Cell { cell: place, fault } => {
-            out.push_str(name(place))?;
+            out.push_str(place_text(place))?;
             cell(out, fault)
         }
     }
