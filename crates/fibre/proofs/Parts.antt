@@ -1,5 +1,5 @@
 -- The end of a list, changed in place.
-use Rattle.std.proofs.Common.{◌≡◌, ℕ, ◌+◌, ◌-◌, ◌≤◌, List, [], ◌++◌, map, length, take, drop, ap, ◌∙◌, append-nil, arith}
+use Rattle.std.proofs.Common.{◌≡◌, ℕ, ◌-◌, ◌≤◌, List, [], ◌++◌, map, length, take, drop, ap, ◌∙◌, append-nil, arith}
 use borrow.Rule.Slice.PartMut.{put_mid, post_of, Post-is, same_len_mid}
 use Rattle.std.proofs.lemmas.List.{take_all, drop_all, take_at, length-drop, length-map}
 

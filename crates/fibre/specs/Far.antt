@@ -1,10 +1,9 @@
 -- A lawful plant behind a length of fibre is one.
-use Rattle.std.specs.Prelude.{◌≡◌, ℕ, zero, suc, ◌+◌, ◌-◌, ◌*◌, ◌<◌, ◌≤◌, min, Bool, true, false, cond, ◌&&◌, List, [], ◌∷◌, ◌++◌, map, length, take, drop, Some, None, Ok, Err, vec_items, vec_len, vec_capacity, Option}
+use Rattle.std.specs.Prelude.{◌≡◌, ℕ, suc, ◌+◌, ◌-◌, ◌*◌, ◌<◌, ◌≤◌, min, Bool, true, false, cond, ◌&&◌, List, [], ◌∷◌, ◌++◌, map, length, take, drop, Some, None, Ok, Err, vec_items, vec_len, vec_capacity, Option}
 use native.Mathlib.Omega.{arith}
 use Rattle.std.proofs.Math.Path.{refl, sym, ap}
 use Rattle.std.proofs.Common.{subst, ◌∙◌}
 use Rattle.std.proofs.lemmas.List.{length-map, length-append, map-append, take_at, drop_at}
-use Rattle.field.proofs.Bounds.{capped-value}
 use Rattle.field.specs.Grant.{grant_of}
 use Rattle.field.specs.Number.{capped}
 use Rattle.field.specs.declared.grant.Grant.{Grant}
@@ -47,9 +46,9 @@ use Rattle.onu.specs.declared.event.OwnEvent.TheVariants.{SignalLoss, SignalRetu
 use Rattle.onu.specs.declared.state.Onu.{Onu}
 use Rattle.onu.specs.declared.state.State.TheVariants.{O1, O2, O4, O5, O6, O7, O8, O9, O10}
 use Rattle.plant.proofs.Rows.{heard-length}
-use Rattle.plant.specs.Heard.{heard_grants, heard_message}
+use Rattle.plant.specs.Heard.{heard_grants}
 use Rattle.plant.specs.Hearing.{Bursts, room_in, asked, Hearing}
-use Rattle.plant.specs.Lawful.{Move, own, drift, drifted, by_move, by_moves, burst_of, answer_to, answers, acted, Choice, leaves, sends, Hears, none, more, HearsCell, all_sound, Does, Lawful, Drifts, still, next}
+use Rattle.plant.specs.Lawful.{Move, own, drift, by_move, by_moves, burst_of, answer_to, answers, acted, Choice, leaves, sends, Hears, none, more, HearsCell, all_sound, Does, Lawful, Drifts, still, next}
 use Rattle.plant.specs.declared.burst.Burst.{Burst}
 use Rattle.plant.specs.declared.hearing.HearFault.{HearFault}
 use Rattle.fibre.specs.declared.Fibre.{Fibre}

@@ -1,10 +1,9 @@
 -- A grant and its byte stand for each other.
-use Rattle.std.proofs.Common.{◌≡◌, ℕ, ◌<◌, ◌≤◌, Some, None, refl, ap, ◌∙◌, ⊎_elim, arith, lit<, lit≤}
+use Rattle.std.proofs.Common.{◌≡◌, ℕ, ◌<◌, ◌≤◌, None, refl, ap, ◌∙◌, ⊎_elim, arith, lit<}
 use mathlib.Core.Path.{subst⁻¹}
 use Rattle.std.proofs.lemmas.Bool.{cases_lt, cases_eq}
 use Rattle.field.specs.declared.grant.Grant.{Grant}
 use Rattle.field.specs.declared.grant.Grant.TheVariants.{Code, Ranging, Unassigned, Idle}
-use Rattle.field.specs.Bounded.{within}
 use Rattle.field.specs.Grant.{ordinary, grant_of, code_of}
 use Rattle.field.proofs.Bounds.{within_in, within-high, within-value}
 

@@ -1,7 +1,7 @@
 -- Long division goes byte by byte: what eight coefficients do to a remainder is a xor with what eight zeros do.
-use Rattle.std.proofs.Common.{◌≡◌, ℕ, zero, suc, ◌+◌, ◌-◌, ◌*◌, ◌/◌, ◌%◌, ◌^◌, ◌<◌, ◌≤◌, Bool, true, false, cond, ltb, List, [], ◌∷◌, ◌++◌, length, get_or, take, replicate, fold, sym, refl, ap, ◌∙◌, subst, ⊎_elim, append_assoc, zero-add, arith, lit<}
-use lib.Bits.{bit_xor, xor_lt, xor_block, xor_shr, xor_assoc, xor_comm, xor_zero_r}
-use Rattle.std.proofs.lemmas.Bool.{ltb-true, ltb-false, lt-ltb, le-ltb, cond_both, cases_lt}
+use Rattle.std.proofs.Common.{◌≡◌, ℕ, ◌+◌, ◌*◌, ◌/◌, ◌%◌, ◌^◌, ◌<◌, ◌≤◌, true, false, ltb, List, [], ◌∷◌, ◌++◌, length, get_or, take, sym, refl, ap, ◌∙◌, ⊎_elim, append_assoc, arith, lit<}
+use lib.Bits.{bit_xor, xor_block, xor_shr, xor_assoc, xor_comm, xor_zero_r}
+use Rattle.std.proofs.lemmas.Bool.{lt-ltb, le-ltb, cases_lt}
 use Rattle.std.proofs.lemmas.List.{take_more}
 use Rattle.field.specs.Check.{brought, divided, bits_of, coefficients, shifted, check_of}
 

@@ -1,6 +1,6 @@
 -- A cell with all check bytes wrong is lost to every ONU.
-use Rattle.std.specs.Prelude.{◌≡◌, ℕ, zero, suc, ◌+◌, ◌-◌, ◌<◌, ◌≤◌, Bool, true, false, cond, ◌⊎◌, List, [], ◌∷◌, ◌++◌, length, take, drop, set, replicate, is_ok, Some, None, Ok, Err, Option, ◌==◌, slice_index, slice_set, refl}
-use Rattle.std.proofs.Common.{arith, sym, ap, ◌∙◌, inl, inr}
+use Rattle.std.specs.Prelude.{◌≡◌, ℕ, ◌+◌, ◌-◌, ◌<◌, ◌≤◌, Bool, true, false, cond, List, [], ◌∷◌, ◌++◌, length, take, drop, set, replicate, is_ok, None, Ok, Err, Option, ◌==◌, slice_index, slice_set, refl}
+use Rattle.std.proofs.Common.{arith, sym, ap, ◌∙◌}
 use Rattle.std.proofs.lemmas.Bool.Decides.{nat_tests}
 use Rattle.std.proofs.Math.Path.{subst}
 use Rattle.std.proofs.lemmas.List.{length-set, get_or-set_same, get_or-set_other, take-set-le, drop-set-lt, drop-set-add}
@@ -9,8 +9,7 @@ use Rattle.field.specs.Check.{check_of}
 use Rattle.field.specs.Grant.{code_of}
 use Rattle.field.specs.declared.grant.Grant.TheVariants.{Idle}
 use Rattle.message.specs.declared.downstream.Downstream.{Downstream}
-use Rattle.cell.specs.Reader.{group_of, message_part, group_checked, message_checked}
-use Rattle.cell.specs.declared.fault.Group.{Group}
+use Rattle.cell.specs.Reader.{group_checked, message_checked}
 use Rattle.cell.specs.declared.fault.Group.TheVariants.{First, Second, Third, Fourth}
 use Rattle.onu.specs.declared.state.Onu.{Onu}
 use Rattle.plant.proofs.Rows.{answers_idle}

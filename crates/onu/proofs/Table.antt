@@ -1,12 +1,10 @@
 -- Every event keeps an ONU sound, and O9 is left in two ways alone.
-use Rattle.std.proofs.Common.{◌≡◌, ℕ, ◌<◌, ◌≤◌, Bool, true, false, cond, ◌&&◌, ◌||◌, eqb, leb, ◌⊎◌, Some, None, Option, refl, inl, inr, arith}
+use Rattle.std.proofs.Common.{◌≡◌, Bool, true, false, cond, ◌&&◌, ◌⊎◌, Some, None, Option, refl, inl, inr, arith}
 use Rattle.std.proofs.lemmas.Bool.Decides.{nat_tests}
 use Rattle.field.specs.declared.bounded.Bounded.{Bounded}
 use Rattle.field.specs.declared.delay.Delay.{Delay}
 use Rattle.message.specs.declared.downstream.Access.{Access}
 use Rattle.message.specs.declared.downstream.Access.TheVariants.{Deny, AllowAll, Allow}
-use Rattle.message.specs.declared.downstream.Address.{Address}
-use Rattle.message.specs.declared.downstream.Address.TheVariants.{One, All}
 use Rattle.message.specs.declared.downstream.Downstream.{Downstream}
 use Rattle.message.specs.declared.downstream.Downstream.TheVariants.{
   NoMessage,

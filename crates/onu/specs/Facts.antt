@@ -1,5 +1,5 @@
 -- What holds of the state table as a whole.
-use Rattle.std.specs.Prelude.{◌≡◌, ℕ, Bool, true, cond, ◌&&◌, ◌||◌, ◌⊎◌, is_some, ◌==◌}
+use Rattle.std.specs.Prelude.{◌≡◌, Bool, true, cond, ◌&&◌, ◌||◌, ◌⊎◌, is_some, ◌==◌}
 use Rattle.field.specs.declared.number.Number.{Number}
 use Rattle.message.specs.declared.downstream.Access.TheVariants.{AllowAll, Allow}
 use Rattle.message.specs.declared.downstream.Downstream.TheVariants.{DisableSerialNumber}

@@ -1,10 +1,9 @@
 -- An outlet with a lawful plant in it, or with none, is one.
-use Rattle.std.specs.Prelude.{ℕ, ◌<◌, ◌≡◌, List, [], length}
+use Rattle.std.specs.Prelude.{List, []}
 use Rattle.std.proofs.Common.{sym, subst}
 use Rattle.onu.specs.declared.state.Onu.{Onu}
 use Rattle.plant.specs.Lawful.{Does, Lawful, HearsCell, none}
 use Rattle.plant.specs.declared.burst.Burst.{Burst}
-use Rattle.outlet.specs.declared.Outlet.{Outlet}
 use Rattle.outlet.specs.declared.Outlet.TheVariants.{Empty, Filled}
 use Rattle.outlet.specs.Outlet.{plugged, OutletDoes}
 

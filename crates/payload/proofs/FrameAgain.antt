@@ -1,15 +1,13 @@
 -- Reading a frame undoes writing it.
-use Rattle.std.proofs.Common.{◌≡◌, ℕ, ◌+◌, ◌≤◌, true, cond, eqb, List, [], ◌∷◌, ◌++◌, map, length, get_or, take, drop, Ok, Err, Result, sym, refl, ap, ◌∙◌, arith, rules}
+use Rattle.std.proofs.Common.{◌≡◌, ℕ, ◌≤◌, true, eqb, List, [], ◌∷◌, ◌++◌, length, take, drop, Ok, sym, refl, ap, ◌∙◌, arith}
 use Rattle.std.specs.List.{between}
 use Rattle.std.proofs.lemmas.Bool.{eq-eqb}
 use Rattle.std.proofs.lemmas.List.{take_at, drop_at, take_all, take-append-drop, length-append, length-drop}
 use Rattle.std.proofs.lemmas.List.Edits.{length-between}
 use Rattle.field.specs.Octets.{picked, grants_of}
-use Rattle.field.specs.declared.grants.Grants.{Grants}
 use Rattle.field.proofs.Runs.{all_picked, grants_again}
-use Rattle.payload.specs.declared.contents.Contents.{Contents}
 use Rattle.payload.specs.declared.frame.Frame.{Frame}
-use Rattle.payload.specs.Cell.{cell_of, cell_bytes}
+use Rattle.payload.specs.Cell.{cell_bytes}
 use Rattle.payload.specs.Frame.{joined, frame_of, first_cell, second_cell, frame_bytes}
 use Rattle.payload.proofs.CellAgain.{cell_again, cell-length}
 

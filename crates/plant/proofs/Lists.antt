@@ -1,5 +1,5 @@
 -- Lists of ONUs at a cell.
-use Rattle.std.proofs.Common.{◌≡◌, ℕ, suc, ◌+◌, ◌*◌, ◌≤◌, Bool, true, false, cond, List, [], ◌∷◌, ◌++◌, length, Some, None, Option, sym, refl, ap, ◌∙◌, subst, append_assoc, append-nil, arith, length-append}
+use Rattle.std.proofs.Common.{◌≡◌, ℕ, suc, ◌*◌, ◌≤◌, Bool, true, false, cond, List, [], ◌∷◌, ◌++◌, length, Some, None, Option, sym, refl, ap, subst, append_assoc, append-nil, arith, length-append}
 use Rattle.message.specs.declared.downstream.Downstream.{Downstream}
 use Rattle.onu.proofs.Table.{obeyed_keeps, happened_keeps}
 use Rattle.onu.specs.Facts.{sound}

@@ -1,8 +1,8 @@
 -- Overlap by the distance of two starts.
-use Rattle.std.proofs.Common.{◌≡◌, ℕ, ◌+◌, ◌-◌, ◌<◌, ◌≤◌, true, false, ltb, ◌⊎◌, MatchBool, inl, inr, arith}
+use Rattle.std.proofs.Common.{◌≡◌, ℕ, ◌+◌, ◌-◌, ◌<◌, ◌≤◌, ltb, ◌⊎◌, MatchBool, inl, inr, arith}
 use Rattle.std.proofs.lemmas.Bool.{cases_lt, lt-ltb, le-ltb}
 use Rattle.plant.specs.declared.burst.Burst.{Burst}
-use Rattle.plant.specs.Overlap.{Covers, Overlap, Apart, OverlapStands}
+use Rattle.plant.specs.Overlap.{Overlap, Apart, OverlapStands}
 
 -- the later start lies in both
 near : (g : ℕ) (b c : Burst) → b.start < c.start + (448 - g) → c.start < b.start + (448 - g) → Overlap g b c

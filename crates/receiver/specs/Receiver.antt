@@ -1,5 +1,5 @@
 -- The bench receiver: what a report says of the bursts that came.
-use Rattle.std.specs.Prelude.{ℕ, zero, suc, ◌+◌, ◌*◌, Bool, cond, List, [], ◌∷◌, ◌++◌, replicate, Some, None, fold, Option, ◌==◌, slice_index}
+use Rattle.std.specs.Prelude.{ℕ, zero, suc, ◌+◌, ◌*◌, cond, List, [], ◌++◌, replicate, Some, None, fold, Option, ◌==◌, slice_index}
 use Rattle.field.specs.Octets.{octets_of}
 use Rattle.onu.specs.declared.answer.Kind.{Kind}
 use Rattle.onu.specs.declared.answer.Kind.TheVariants.{Ploam, Data}

@@ -1,5 +1,5 @@
 -- A record of 18 bytes: kind, differing parity bits, offset, message.
-use Rattle.std.specs.Prelude.{◌≡◌, ℕ, ◌+◌, ◌*◌, ◌<◌, ◌≤◌, cond, List, [], ◌∷◌, ◌++◌, ◌==◌, nat_le}
+use Rattle.std.specs.Prelude.{◌≡◌, ℕ, ◌+◌, ◌*◌, ◌<◌, ◌≤◌, cond, List, ◌∷◌, ◌++◌, ◌==◌, nat_le}
 use Rattle.field.specs.Bytes.{at, word_bytes}
 use Rattle.field.specs.Octets.{picked, octets_of}
 use Rattle.report.specs.Offset.{offset_of, offset_bits}

@@ -1,5 +1,5 @@
 -- One arm hears a cell, or is passed over because it is dark; none can refuse.
-use Rattle.std.proofs.Common.{◌≡◌, ℕ, ◌+◌, ◌*◌, ◌<◌, ◌≤◌, List, [], ◌++◌, length, get_or, take, drop, set, Ok, Err, vec_items, vec_len, vec_capacity, Vec, sym, refl, ap, ◌∙◌, subst, arith, length-append}
+use Rattle.std.proofs.Common.{◌≡◌, ℕ, ◌+◌, ◌*◌, ◌<◌, ◌≤◌, List, [], ◌++◌, length, get_or, drop, set, Ok, Err, vec_items, vec_len, vec_capacity, Vec, sym, ap, ◌∙◌, subst, arith, length-append}
 use Rattle.std.proofs.lemmas.List.{set-get_or, take_at}
 use Rattle.std.specs.Vec.{with_items}
 use Rattle.std.specs.declared.alloc.Global.{Global}
@@ -7,7 +7,7 @@ use Rattle.onu.specs.declared.state.Onu.{Onu}
 use Rattle.plant.proofs.Lists.{hears_few}
 use Rattle.plant.proofs.Questions.{accepted}
 use Rattle.plant.proofs.Rows.{heard-length}
-use Rattle.plant.specs.Hearing.{Bursts, room_in, Heard, asked, Hearing}
+use Rattle.plant.specs.Hearing.{Bursts, room_in, asked, Hearing}
 use Rattle.plant.specs.Lawful.{Does, Lawful}
 use Rattle.plant.specs.declared.burst.Burst.{Burst}
 use Rattle.plant.specs.declared.hearing.HearFault.{HearFault}

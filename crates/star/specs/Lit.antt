@@ -1,16 +1,14 @@
 -- A star of lawful plants is one.
-use Rattle.std.specs.Prelude.{◌≡◌, ℕ, suc, ◌+◌, ◌*◌, ◌<◌, ◌≤◌, Bool, true, false, cond, ◌⊎◌, List, [], ◌∷◌, ◌++◌, length, take, nat_le, slice_index_or}
+use Rattle.std.specs.Prelude.{◌≡◌, ℕ, ◌+◌, ◌<◌, ◌≤◌, true, false, List, [], ◌∷◌, ◌++◌, length, take, nat_le, slice_index_or}
 use native.Mathlib.Omega.{arith}
-use Rattle.std.proofs.lemmas.Bool.Decides.{nat_tests}
 use Rattle.std.proofs.Math.Path.{refl, sym, ap, subst}
 use Rattle.std.proofs.Common.{◌∙◌, append_assoc, append-nil, inl, inr, length-append}
 use Rattle.std.proofs.lemmas.List.{take_more}
-use Rattle.std.proofs.lemmas.Bool.{cases_lt, le-leb}
+use Rattle.std.proofs.lemmas.Bool.{cases_lt}
 use Rattle.onu.specs.declared.state.Onu.{Onu}
 use Rattle.splitter.specs.Splits.{joined_few, joined_sound, joined_whole, joined_dark}
 use Rattle.splitter.specs.Splitter.{joined}
-use Rattle.plant.proofs.Lists.{hears-append, hears-count, hears_few}
-use Rattle.plant.proofs.Rows.{heard-length}
+use Rattle.plant.proofs.Lists.{hears-append, hears-count}
 use Rattle.plant.specs.Lawful.{Does, Lawful, HearsCell, all_sound, none as nobody}
 use Rattle.plant.specs.declared.burst.Burst.{Burst}
 use Rattle.star.specs.Star.{lit, lit_in, lighted, Arms, none, bright, dim}

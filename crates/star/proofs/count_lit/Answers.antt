@@ -1,6 +1,5 @@
 use Rattle.std.proofs.Common.{◌≡◌, ◌+◌, length, take, arith, rules}
 use Rattle.std.proofs.lemmas.List.{take_all}
-use Rattle.std.proofs.lemmas.Bool.Decides.{nat_tests}
 use Rattle.star.specs.Star.{lit, lit_in}
 use Rattle.star.specs.Lit.{lit_none, lit_step}
 use Rattle.star.proofs.count_lit.Goals as goal

@@ -1,4 +1,4 @@
-use Rattle.std.proofs.Common.{◌+◌, ◌<◌, ◌≤◌, get_or, refl, ◌∙◌, arith, rules}
+use Rattle.std.proofs.Common.{◌+◌, ◌<◌, ◌≤◌, refl, ◌∙◌, arith}
 use Rattle.star.proofs.Going.{begun, ended}
 use Rattle.star.proofs.Steps.{passed, heard, refuses_never}
 use Rattle.star.proofs.hear_arms.Goals as goal

@@ -1,5 +1,5 @@
 -- The whole table is the list of what eight zeros make of 0 to 255: the checker computes that list and compares it once.
-use Rattle.std.proofs.Common.{◌≡◌, ℕ, ◌^◌, ◌<◌, refl, arith, rules}
+use Rattle.std.proofs.Common.{ℕ, ◌^◌, ◌<◌, arith, rules}
 use lib.Bits.{bit_xor}
 use Rattle.std.proofs.lemmas.Nat.{xor_lt}
 use Rattle.std.proofs.lemmas.List.FromFn.{get_or-map-range_with_len}

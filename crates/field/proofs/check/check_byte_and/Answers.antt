@@ -1,4 +1,4 @@
-use Rattle.std.proofs.Common.{◌≡◌, ◌<◌, sym, ap, ◌∙◌, rules}
+use Rattle.std.proofs.Common.{sym, ap, ◌∙◌, rules}
 use lib.Bits.{bit_xor}
 use Rattle.field.specs.Check.{shifted}
 use Rattle.field.proofs.Division.{check_push}

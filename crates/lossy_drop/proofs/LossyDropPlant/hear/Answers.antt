@@ -1,5 +1,4 @@
-use Rattle.std.proofs.Common.{arith, rules}
-use Rattle.plant.proofs.Questions.{refused}
+use Rattle.std.proofs.Common.{arith}
 use Rattle.lossy_drop.specs.Deaf.{drop_ok, drop_err}
 use Rattle.lossy_drop.proofs.LossyDropPlant.hear.Goals as goal
 

@@ -1,4 +1,4 @@
-use Rattle.std.proofs.Common.{◌≡◌, ◌<◌, length, ap, ◌∙◌, not-suc-le-zero, arith, rules}
+use Rattle.std.proofs.Common.{◌≡◌, length, ap, ◌∙◌, not-suc-le-zero, arith, rules}
 use lib.ListN.{length-replicate}
 use Rattle.field.specs.Grant.{code_of}
 use Rattle.field.specs.Octets.{grants_of}

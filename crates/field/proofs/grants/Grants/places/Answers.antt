@@ -1,4 +1,4 @@
-use Rattle.std.proofs.Common.{◌≡◌, ◌<◌, length, get_or, not-suc-le-zero, arith, length-set}
+use Rattle.std.proofs.Common.{◌<◌, length, get_or, not-suc-le-zero, arith, length-set}
 use lib.ListN.{length-replicate}
 use Rattle.std.proofs.lemmas.List.Edits.{fill_by_more}
 use Rattle.field.specs.Grant.{grant_of}

@@ -1,4 +1,4 @@
-use Rattle.std.proofs.Common.{◌≡◌, ap, ◌∙◌, rules}
+use Rattle.std.proofs.Common.{ap, ◌∙◌, rules}
 use Rattle.field.specs.Octets.{grants_of}
 use Rattle.cell.specs.Reader.{group_of}
 use Rattle.payload.specs.Cell.{grants_in}

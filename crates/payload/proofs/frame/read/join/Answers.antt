@@ -1,4 +1,4 @@
-use Rattle.std.proofs.Common.{◌≡◌, ◌++◌, ap, ◌∙◌, rules}
+use Rattle.std.proofs.Common.{ap, ◌∙◌, rules}
 use Rattle.std.specs.List.{between}
 use Rattle.field.specs.Octets.{grants_of}
 use Rattle.payload.specs.Frame.{joined}

@@ -1,4 +1,4 @@
-use Rattle.std.proofs.Common.{◌≡◌, ap, ◌∙◌, rules}
+use Rattle.std.proofs.Common.{◌≡◌, rules}
 use Rattle.std.specs.List.{between}
 use Rattle.payload.specs.Frame.{first_cell}
 use Rattle.payload.proofs.Pieces.{one_piece}

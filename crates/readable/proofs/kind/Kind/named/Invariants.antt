@@ -1,5 +1,5 @@
 -- No kind that was passed has the name.
-use Rattle.std.proofs.Common.{◌≡◌, ℕ, ◌<◌}
+use Rattle.std.proofs.Common.{◌≡◌, ◌<◌}
 use Rattle.readable.specs.declared.kind.Kind.{Kind}
 use Rattle.readable.specs.Names.{kind_name}
 use Rattle.readable.proofs.Places.{place}
