@@ -1,5 +1,5 @@
-//! Prints random scripts: `scripts SEED COUNT`, the same ones for the same
-//! seed. A line of ONUs is kept along with each script, so that most cells can
+//! Prints random scripts: `scripts START COUNT`, the same ones for the same
+//! start. A line of ONUs is kept along with each script, so that most cells can
 //! be made to lead some ONU on.
 
 use codec::cell::{check_place, set_checks, Cell, CELL, GRANTS, MESSAGE_AT, MESSAGE_CHECK};
@@ -58,8 +58,8 @@ fn bytes_text(bytes: &[u8]) -> String {
 }
 
 impl Maker {
-    fn new(seed: u64) -> Maker {
-        let mut random = Random::new(seed);
+    fn new(start: u64) -> Maker {
+        let mut random = Random::new(start);
         let theme = match random.below(100) {
             0 => Theme::Late,
             1..=11 => Theme::Crowd,
@@ -864,14 +864,14 @@ fn main() -> io::Result<()> {
         .skip(1)
         .filter_map(|word| word.parse().ok())
         .collect();
-    let [seed, count] = numbers[..] else {
-        eprintln!("usage: scripts SEED COUNT");
+    let [start, count] = numbers[..] else {
+        eprintln!("usage: scripts START COUNT");
         std::process::exit(2);
     };
-    let mut seeds = Random::new(seed);
+    let mut starts = Random::new(start);
     let mut out = BufWriter::new(io::stdout().lock());
     for _ in 0..count {
-        for line in Maker::new(seeds.next_u64()).script() {
+        for line in Maker::new(starts.next_u64()).script() {
             writeln!(out, "{line}")?;
         }
     }
