@@ -9,7 +9,7 @@ use Rattle.onu.specs.declared.event.OwnEvent.TheVariants.{SignalReturn, PowerSet
 use Rattle.onu.specs.declared.state.Onu.{Onu}
 use Rattle.upstream.specs.Message.{source_byte}
 use Rattle.plant.specs.Heard.{heard_grants, heard_message}
-use Rattle.plant.specs.Lawful.{Move, own, by_move, by_moves, acted, answers, steady}
+use Rattle.plant.specs.Lawful.{Move, own, by_move, by_moves, acted, answers, steady, Drifts}
 use Rattle.plant.specs.declared.burst.Burst.{Burst}
 use Rattle.bench.specs.declared.machine.Machine.{Machine}
 
@@ -40,13 +40,22 @@ ticked o n m = record { onu = o; fresh = false; ranging = counted (inside 5 7 o)
 unfoldable pub after_cell : Machine → List ℕ → Machine
 after_cell s p = ticked (acted (heard_message p) (woken s)) s.ranging s.popup
 
+-- its answers
+abbrev pub answers_of : Machine → ℕ → List ℕ → List Burst
+answers_of s first p = answers (steady (quiet (woken s))) (woken s) first (heard_grants p)
+
 -- an accepted cell: the state table exactly, and the answers of that ONU
 abbrev pub BenchDoes : Machine → List ℕ → ℕ → Machine → List Burst → Type 0
-BenchDoes s p first t new = (t ≡ after_cell s p) × (new ≡ answers (steady (quiet (woken s))) (woken s) first (heard_grants p))
+BenchDoes s p first t new = (t ≡ after_cell s p) × (new ≡ answers_of s first p)
 
--- what the host does between cells
+-- the ONU moves, and nothing else changes
 abbrev pub met : Move → Machine → Machine
-met m s = record { onu = by_move m s.onu; fresh = s.fresh; ranging = s.ranging; popup = s.popup }
+met m s = record s { onu = by_move m s.onu }
+
+-- what the host does between cells: the ONU moves, which is a drift
+pub record Meets (m : Move) (s t : Machine) : Type 0 where
+  pub machine : t ≡ met m s
+  pub drifts : Drifts (s.onu ∷ []) (t.onu ∷ [])
 
 abbrev pub new_machine : Number 18446744073709551615 → Number 1000000 → Machine
 new_machine serial trip = record { onu = new_onu serial trip; fresh = true; ranging = 0; popup = 0 }

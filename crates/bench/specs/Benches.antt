@@ -1,20 +1,20 @@
 -- The bench ONU is a lawful plant.
 use Rattle.std.specs.Prelude.{◌≡◌, ℕ, true, false, List, [], ◌∷◌}
-use Rattle.std.proofs.Common.{sym, subst}
+use Rattle.std.proofs.Common.{sym, ap, subst}
 use Rattle.onu.specs.Facts.{sound}
 use Rattle.onu.specs.declared.state.Onu.{Onu}
 use Rattle.plant.proofs.Lists.{hears_one, moves_keep, acted_keeps}
-use Rattle.plant.specs.Heard.{heard_grants, heard_message}
-use Rattle.plant.specs.Lawful.{Move, by_move, by_moves, answers, steady, Choice, HearsCell, Drifts, still, next}
+use Rattle.plant.specs.Heard.{heard_message}
+use Rattle.plant.specs.Lawful.{Move, by_move, by_moves, steady, Choice, HearsCell, Drifts, still, next}
 use Rattle.plant.specs.declared.burst.Burst.{Burst}
 use Rattle.bench.specs.declared.machine.Machine.{Machine}
-use Rattle.bench.specs.Bench.{quiet, due, woken, after_cell, BenchDoes}
+use Rattle.bench.specs.Bench.{quiet, due, woken, after_cell, answers_of, BenchDoes, met, Meets}
 
 -- the choice that the bench ONU makes
 chosen : Machine → Choice
 chosen s = record { before = due s; loses = false; says = steady (quiet (woken s)) }
 
-heard : (s : Machine) (p : List ℕ) (f : ℕ) → HearsCell p f (s.onu ∷ []) ((after_cell s p).onu ∷ []) (answers (steady (quiet (woken s))) (woken s) f (heard_grants p))
+heard : (s : Machine) (p : List ℕ) (f : ℕ) → HearsCell p f (s.onu ∷ []) ((after_cell s p).onu ∷ []) (answers_of s f p)
 unfolding chosen woken after_cell
 heard s p f = hears_one (chosen s)
 
@@ -33,3 +33,6 @@ cell_keeps s t p e h = subst (λ (u : Machine). sound u.onu ≡ true) (sym e) (a
 -- what the host does is a drift
 pub move_drifts : (m : Move) (o o' : Onu) → o' ≡ by_move m o → Drifts (o ∷ []) (o' ∷ [])
 move_drifts m o o' e = subst (λ (u : Onu). Drifts (o ∷ []) (u ∷ [])) (sym e) (next (m ∷ []) still)
+
+pub meets : (m : Move) (s t : Machine) → t ≡ met m s → Meets m s t
+meets m s t e = record { machine = e; drifts = move_drifts m s.onu t.onu (ap (λ (u : Machine). u.onu) e) }

@@ -1,2 +1,4 @@
+pub mod Appended
 pub mod Bench
 pub mod Benches
+pub mod Ear

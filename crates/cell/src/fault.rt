@@ -10,7 +10,7 @@ use std::fmt;
 // The grants of a cell stand in four groups.
 #[derive(Clone, Copy, PartialEq, Eq)]
 pub enum Group {
-    First,
+    First = 1,
     Second,
     Third,
     Fourth,
@@ -76,10 +76,7 @@ impl CheckFault {
         ensures { result ≡ group_number self }
     {
         match self {
-            CheckFault::Grants(Group::First) => 1,
-            CheckFault::Grants(Group::Second) => 2,
-            CheckFault::Grants(Group::Third) => 3,
-            CheckFault::Grants(Group::Fourth) => 4,
+            CheckFault::Grants(group) => group as u8,
             CheckFault::Message => 5,
         }
     }

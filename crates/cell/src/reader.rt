@@ -5,6 +5,7 @@ ghost use Rattle.cell.specs.Reader.{first_of, group_of, size_of, message_part, g
 
 use crate::fault::{CellFault, CheckFault, Group};
 use field::check::{check_byte, check_byte_and_zero};
+use field::coded::Coded;
 use field::grant::Grant;
 use message::downstream::Downstream;
 use message::fault::MessageFault;
@@ -19,10 +20,8 @@ impl<'a> Cell<'a> {
     pub fn new(bytes: &'a [u8]) -> Result<Cell<'a>, CellFault>
         ensures { elim result [ Ok c ↦ (length bytes.now ≡ 48) × (c.bytes.now ≡ bytes.now) | Err e ↦ (e ≡ CellFault.Length) × (length bytes.now ≢ 48) ] }
     {
-        match <&'a [u8; 48]>::try_from(bytes) {
-            Ok(whole) => Ok(Cell { bytes: whole }),
-            Err(_) => Err(CellFault::Length),
-        }
+        let bytes = <&'a [u8; 48]>::try_from(bytes).map_err(|_| CellFault::Length)?;
+        Ok(Cell { bytes })
     }
 
     // Whether this is the first cell of its frame; the byte's other bits are not looked at.
@@ -124,6 +123,6 @@ impl<'a> Cell<'a> {
             return None;
         }
         let k = usize::from(place - 1);
-        Some(Grant::from_byte(self.bytes[k + 3 + k / 7]))
+        Some(Grant::from(self.bytes[k + 3 + k / 7]))
     }
 }

@@ -1,9 +1,9 @@
 -- A lawful plant behind a length of fibre is one.
-use Rattle.std.specs.Prelude.{◌≡◌, ℕ, suc, ◌+◌, ◌-◌, ◌*◌, ◌<◌, ◌≤◌, min, Bool, true, false, cond, ◌&&◌, List, [], ◌∷◌, ◌++◌, map, length, take, drop, Some, None, Ok, Err, vec_items, vec_len, vec_capacity, Option}
+use Rattle.std.specs.Prelude.{◌≡◌, ℕ, suc, ◌+◌, ◌-◌, ◌*◌, ◌<◌, ◌≤◌, min, Bool, true, false, cond, ◌&&◌, List, [], ◌∷◌, ◌++◌, map, length, Some, None, Option}
 use native.Mathlib.Omega.{arith}
 use Rattle.std.proofs.Math.Path.{refl, sym, ap}
 use Rattle.std.proofs.Common.{subst, ◌∙◌}
-use Rattle.std.proofs.lemmas.List.{length-map, length-append, map-append, take_at, drop_at}
+use Rattle.std.proofs.lemmas.List.{length-map, map-append}
 use Rattle.field.specs.Grant.{grant_of}
 use Rattle.field.specs.Number.{capped}
 use Rattle.field.specs.declared.grant.Grant.{Grant}
@@ -14,28 +14,7 @@ use Rattle.message.specs.declared.downstream.Access.{Access}
 use Rattle.message.specs.declared.downstream.Access.TheVariants.{Deny, AllowAll, Allow}
 use Rattle.message.specs.declared.downstream.Address.TheVariants.{One, All}
 use Rattle.message.specs.declared.downstream.Downstream.{Downstream}
-use Rattle.message.specs.declared.downstream.Downstream.TheVariants.{
-  NoMessage,
-  UpstreamRxControl,
-  UpstreamOverhead,
-  RangingTime,
-  SerialNumberMask,
-  AssignPonId,
-  DeactivatePonId,
-  DisableSerialNumber,
-  NewChurningKeyRequest,
-  ChurningKeyUpdate,
-  GrantAllocation,
-  DividedSlotGrant,
-  ConfigureVpVc,
-  PhysicalEquipmentError,
-  RequestPassword,
-  ChurnedVp,
-  Popup,
-  VendorSpecific,
-  Pst,
-  BerInterval,
-}
+use Rattle.message.specs.declared.downstream.Downstream.TheVariants.{UpstreamOverhead, RangingTime, SerialNumberMask, AssignPonId, DeactivatePonId, DisableSerialNumber, GrantAllocation, Popup}
 use Rattle.field.specs.Delay.{no_delay}
 use Rattle.onu.specs.Answer.{kind_for, number_octets, said_by}
 use Rattle.onu.specs.Facts.{sound}
@@ -47,11 +26,8 @@ use Rattle.onu.specs.declared.state.Onu.{Onu}
 use Rattle.onu.specs.declared.state.State.TheVariants.{O1, O2, O4, O5, O6, O7, O8, O9, O10}
 use Rattle.plant.proofs.Rows.{heard-length}
 use Rattle.plant.specs.Heard.{heard_grants}
-use Rattle.plant.specs.Hearing.{Bursts, room_in, asked, Hearing}
-use Rattle.plant.specs.Lawful.{Move, own, drift, by_move, by_moves, burst_of, answer_to, answers, acted, Choice, leaves, sends, Hears, none, more, HearsCell, all_sound, Does, Lawful, Drifts, still, next}
+use Rattle.plant.specs.Lawful.{Move, own, drift, by_move, by_moves, burst_of, answer_to, answers, acted, Choice, leaves, sends, Hears, none, more, HearsCell, all_sound, Does, Lawful, Drifts, still, next, slot_limit}
 use Rattle.plant.specs.declared.burst.Burst.{Burst}
-use Rattle.plant.specs.declared.hearing.HearFault.{HearFault}
-use Rattle.fibre.specs.declared.Fibre.{Fibre}
 use Rattle.fibre.specs.Fibre.{longer, far, farther, FibreDoes}
 
 module _ (b : ℕ) where
@@ -91,18 +67,7 @@ module _ (b : ℕ) where
   obeyed_far (DeactivatePonId (One p)) o = either (inside 3 8 o && has o.id p.value) (restarted O2 o) o
   obeyed_far (DeactivatePonId All) o = either (inside 3 8 o && true) (restarted O2 o) o
   obeyed_far (DisableSerialNumber access) o = disabled_far access o
-  obeyed_far NoMessage o = refl
-  obeyed_far (UpstreamRxControl part) o = refl
-  obeyed_far (NewChurningKeyRequest p) o = refl
-  obeyed_far (ChurningKeyUpdate p count) o = refl
-  obeyed_far (DividedSlotGrant p slot part service) o = refl
-  obeyed_far (ConfigureVpVc p active header mask) o = refl
-  obeyed_far PhysicalEquipmentError o = refl
-  obeyed_far (RequestPassword p) o = refl
-  obeyed_far (ChurnedVp p churned vpi) o = refl
-  obeyed_far (VendorSpecific to kind body) o = refl
-  obeyed_far (Pst line k1 k2) o = refl
-  obeyed_far (BerInterval p frames) o = refl
+  obeyed_far _ o = refl
 
   acted_far : (m : Option Downstream) (o : Onu) → acted m (far b o) ≡ far b (acted m o)
   acted_far None o = refl
@@ -140,11 +105,11 @@ module _ (b : ℕ) where
   longer_bound t = (longer b t).high
 
   start_far : (n : ℕ) (o : Onu) → n < 15000000000000000
-      → 448 * n + (longer b o.trip).value + o.register.bits ≡ min (448 * n + o.trip.value + o.register.bits + ((longer b o.trip).value - o.trip.value)) 18446744073709551615
+      → 448 * n + (longer b o.trip).value + o.register.value ≡ min (448 * n + o.trip.value + o.register.value + ((longer b o.trip).value - o.trip.value)) 18446744073709551615
   start_far n o h =
       let k : o.trip.value ≤ (longer b o.trip).value = longer_more o.trip in
       let l : (longer b o.trip).value ≤ 1000000 = longer_bound o.trip in
-      let r : o.register.bits ≤ 32000 = o.register.bounded in
+      let r : o.register.value ≤ 32000 = o.register.high in
       omega arith
 
   later : Kind → Octets 12 → Onu → ℕ → ℕ → Octets 12 → Burst
@@ -171,7 +136,7 @@ module _ (b : ℕ) where
 
   -- the same choice, seen over the fibre
   over : Choice → Choice
-  over c = record { before = map seen c.before; loses = c.loses; says = c.says }
+  over c = record c { before = map seen c.before }
 
   leaves_case : (v : Bool) (m : Option Downstream) (x y : Onu) → x ≡ far b y → cond v x (acted m x) ≡ far b (cond v y (acted m y))
   leaves_case true m x y e = e
@@ -217,7 +182,7 @@ module _ (b : ℕ) where
   few_far xs h = simp length-map h
 
 module _ {X : Type 0} (means : X → List Onu) (D : Does X) where
-  pub fibre_lawful : Lawful means D → (x y : X) (d e : Number 32000) (p : List ℕ) (f : ℕ) (new : List Burst) → length p ≡ 48 → f < 14918173765664768 → FibreDoes D x d p f y e new
+  pub fibre_lawful : Lawful means D → (x y : X) (d e : Number 32000) (p : List ℕ) (f : ℕ) (new : List Burst) → length p ≡ 48 → f < slot_limit → FibreDoes D x d p f y e new
       → HearsCell p f (map (far d.value) (means x)) (map (far e.value) (means y)) new
   fibre_lawful law x y d e p f new l h (old, k, i, j) =
       let len : length (heard_grants p) ≡ 27 = heard-length p l in
@@ -225,44 +190,3 @@ module _ {X : Type 0} (means : X → List Onu) (D : Does X) where
       hears_far d.value (omega arith) (law x y p f old l h k) in
       subst (λ (z : Number 32000). HearsCell p f (map (far d.value) (means x)) (map (far z.value) (means y)) new) (sym j)
       (subst (λ (bs : List Burst). HearsCell p f (map (far d.value) (means x)) (map (far d.value) (means y)) bs) (sym i) a)
-
-module _ {X : Type 0} (means : X → List Onu) (D : Does X) (s : Fibre X) (y : X) (p : List ℕ) (f : ℕ) (b : Bursts) where
-  abbrev pub fibre : Does (Fibre X)
-  fibre u q g t new = FibreDoes D u.plant u.bits q g t.plant t.bits new
-
-  pub fibre_ok : (b1 b2 : Bursts) (k : ℕ) → k ≡ vec_len b → Hearing D (length (means s.plant)) s.plant p f b y b1 (Ok tt)
-      → vec_items b2 ≡ take k (vec_items b1) ++ map (farther s.bits.value) (drop k (vec_items b1)) → vec_capacity b2 ≡ vec_capacity b1
-      → Hearing fibre (length (map (far s.bits.value) (means s.plant))) s p f b (record { plant = y; bits = s.bits }) b2 (Ok tt)
-  fibre_ok b1 b2 k d h i c =
-      let new = h.after.0 in
-      let v : k ≡ length (vec_items b) = d ∙ b.ok.0 in
-      let front : take k (vec_items b1) ≡ vec_items b = ap (take k) h.after.1 ∙ take_at (vec_items b) new k (sym v) in
-      let rest : drop k (vec_items b1) ≡ new = ap (drop k) h.after.1 ∙ drop_at (vec_items b) new k (sym v) in
-      record {
-        answer = h.answer ∙ ap (λ (x : ℕ). asked (length p) (room_in b) x f) (sym (length-map (means s.plant) (far s.bits.value)));
-        room = c ∙ h.room;
-        after = (
-          map (farther s.bits.value) new,
-          i ∙ ap (λ (zs : List Burst). zs ++ map (farther s.bits.value) (drop k (vec_items b1))) front ∙ ap (λ (zs : List Burst). vec_items b ++ map (farther s.bits.value) zs) rest,
-          (new, h.after.2, refl, refl),
-        );
-      }
-
-  pub fibre_err : (b1 : Bursts) (e : HearFault) → Hearing D (length (means s.plant)) s.plant p f b y b1 (Err e)
-      → Hearing fibre (length (map (far s.bits.value) (means s.plant))) s p f b (record { plant = y; bits = s.bits }) b1 (Err e)
-  fibre_err b1 e h =
-      record {
-        answer = h.answer ∙ ap (λ (x : ℕ). asked (length p) (room_in b) x f) (sym (length-map (means s.plant) (far s.bits.value)));
-        room = h.room;
-        after = (ap behind h.after.0, h.after.1);
-      }
-    where
-      behind : X → Fibre X
-      behind z = record { plant = z; bits = s.bits }
-
-pub grown : {X : Type 0} {D : Does X} {count : ℕ} {x y : X} {p : List ℕ} {f : ℕ} (b b' : Bursts) → Hearing D count x p f b y b' (Ok tt) → vec_len b ≤ vec_len b'
-grown b b' h =
-    let v : vec_len b ≡ length (vec_items b) = b.ok.0 in
-    let v' : vec_len b' ≡ length (vec_items b') = b'.ok.0 in
-    let e : length (vec_items b') ≡ length (vec_items b) + length h.after.0 = ap length h.after.1 ∙ length-append (vec_items b) h.after.0 in
-    omega arith

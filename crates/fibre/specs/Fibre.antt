@@ -15,15 +15,7 @@ far bits o = drifted (longer bits o.trip) o
 
 -- a burst that comes over the fibre starts as much later as its round trip is longer
 abbrev pub farther : (bits : ℕ) → Burst → Burst
-farther bits b =
-    record {
-      serial = b.serial;
-      slot = b.slot;
-      start = min (b.start + ((longer bits b.trip).value - b.trip.value)) 18446744073709551615;
-      trip = longer bits b.trip;
-      kind = b.kind;
-      message = b.message;
-    }
+farther bits b = record b { start = min (b.start + ((longer bits b.trip).value - b.trip.value)) 18446744073709551615; trip = longer bits b.trip }
 
 -- the plant behind hears the cell, and its bursts come over the fibre
 abbrev pub FibreDoes : {X : Type 0} → Does X → X → Number 32000 → List ℕ → ℕ → X → Number 32000 → List Burst → Type 0

@@ -1,15 +1,15 @@
 // A length of fibre before a plant.
 #![tactic(auto)]
 
-ghost use Rattle.std.specs.Prelude.{◌≡◌, ◌≤◌, ◌++◌, map, take, drop, vec_len, vec_capacity};
+ghost use Rattle.std.specs.Prelude.{◌≡◌, map};
 ghost use Rattle.field.specs.Number.{capped};
 ghost use Rattle.fibre.specs.Fibre.{far, farther, FibreDoes};
 ghost use Rattle.fibre.specs.Far.{few_far, sound_far, fibre_lawful};
 
+use cell::reader::Cell;
 use field::number::Number;
 use onu::state::RoundTrip;
 use plant::burst::Burst;
-use plant::hearing::HearFault;
 use plant::plant::Plant;
 
 // Bits that a length of fibre adds to a round trip.
@@ -27,32 +27,10 @@ fn put_off(burst: Burst, bits: FibreBits) -> Burst
     let trip = RoundTrip::saturating(burst.trip.value() + bits.value());
     let later = trip.value().saturating_sub(burst.trip.value());
     Burst {
-        serial: burst.serial,
-        slot: burst.slot,
         start: burst.start.saturating_add(later),
         trip,
-        kind: burst.kind,
-        message: burst.message,
+        ..burst
     }
-}
-
-fn put_all_off(bursts: &mut [Burst], bits: FibreBits)
-    ensures { bursts.new ≡ map (farther bits.value) bursts.old }
-{
-    for burst in bursts.iter_mut() {
-        *burst = put_off(*burst, bits);
-    }
-}
-
-// The bursts from one place on come over the fibre.
-fn put_off_from(bursts: &mut Vec<Burst>, from: usize, bits: FibreBits)
-    requires { from ≤ vec_len bursts.old }
-    ensures items { bursts.new.items ≡ take from bursts.old.items ++ map (farther bits.value) (drop from bursts.old.items) }
-    ensures cap { vec_capacity bursts.new ≡ vec_capacity bursts.old }
-{
-    let n = bursts.len();
-    let all = bursts.as_mut_slice();
-    put_all_off(&mut all[from..n], bits);
 }
 
 impl<P> Fibre<P> {
@@ -80,19 +58,11 @@ impl<P: Plant> Plant for Fibre<P> {
         self.plant.count()
     }
 
-    fn hear(
-        &mut self,
-        payload: &[u8],
-        first: u64,
-        bursts: &mut Vec<Burst>,
-    ) -> Result<(), HearFault> {
+    fn accept(&mut self, cell: &Cell, first: u64, bursts: &mut Vec<Burst>) {
         let before = bursts.len();
-        match self.plant.hear(payload, first, bursts) {
-            Ok(()) => {
-                put_off_from(bursts, before, self.bits);
-                Ok(())
-            }
-            Err(fault) => Err(fault),
+        self.plant.accept(cell, first, bursts);
+        for burst in bursts[before..].iter_mut() {
+            *burst = put_off(*burst, self.bits);
         }
     }
 }

@@ -1,17 +1,14 @@
 -- A number within its bounds is made into a value, one outside is not, and a value's number gives that value again.
-use Rattle.std.proofs.Common.{◌≡◌, ℕ, ◌+◌, ◌<◌, ◌≤◌, min, false, ◌&&◌, leb, Some, None, Option, refl, ap, ◌∙◌, subst, ⊎_elim, arith}
-use Rattle.std.proofs.lemmas.Bool.{and_cases, leb-false}
+use Rattle.std.proofs.Common.{◌≡◌, ℕ, ◌+◌, ◌<◌, ◌≤◌, min, Some, None, Option, refl, ap, ◌∙◌, subst, arith}
 use native.Mathlib.Bridge.{le_prop}
 use native.Mathlib.Decide.{dec_le}
 use native.Mathlib.Nat.{min-le_right}
 use Rattle.field.specs.declared.bounded.Bounded.{Bounded}
 use Rattle.field.specs.declared.number.Number.{Number}
-use Rattle.field.specs.declared.delay.Delay.{Delay}
 use Rattle.field.specs.declared.minislot.Minislot.{Minislot}
 use Rattle.field.specs.Bounded.{between, within}
 use Rattle.field.specs.Number.{below, up_to, capped}
 use Rattle.field.specs.Minislot.{part, minislot_of}
-use Rattle.field.specs.Delay.{short, delay_of}
 
 abbrev bounded : {low high : ℕ} (n : ℕ) → low ≤ n → n ≤ high → Option (Bounded low high)
 bounded n h k = Some (record { value = n; low = h; high = k })
@@ -42,10 +39,6 @@ pub within-high : (low high n : ℕ) → high < n → within low high n ≡ None
 unfolding within
 within-high low high n h = between-high (dec_le low n) (dec_le n high) h
 
-pub within_out : (low high n : ℕ) → (leb low n && leb n high) ≡ false → within low high n ≡ None
-within_out low high n e =
-    ⊎_elim (λ a. within_low low high n (leb-false low n a)) (λ b. within-high low high n (leb-false n high b)) (and_cases (leb low n) (leb n high) e)
-
 pub within-value : {low high : ℕ} (x : Bounded low high) → within low high x.value ≡ Some x
 within-value {low} {high} x = within_in low high x.value x.low x.high
 
@@ -67,25 +60,6 @@ up_to_out high n h = below_out (dec_le n high) h
 
 pub up_to-value : {high : ℕ} (x : Number high) → up_to high x.value ≡ Some x
 up_to-value {high} x = up_to_in high x.value x.high
-
-short_in : {n : ℕ} (e : Dec (n ≤ 32000)) (k : n ≤ 32000) → short e ≡ Some (record { bits = n; bounded = k })
-short_in {n} (yes b) k = ap (λ x. let v : Delay = record { bits = n; bounded = x } in Some v) (le_prop b k)
-short_in (no b) k = absurd (b k)
-
-short_out : {n : ℕ} (e : Dec (n ≤ 32000)) → 32000 < n → short e ≡ None
-short_out (yes b) h = absurd (omega arith)
-short_out (no b) h = refl
-
-pub delay_in : (n : ℕ) (k : n ≤ 32000) → delay_of n ≡ Some (record { bits = n; bounded = k })
-unfolding delay_of
-delay_in n k = short_in (dec_le n 32000) k
-
-pub delay_out : (n : ℕ) → 32000 < n → delay_of n ≡ None
-unfolding delay_of
-delay_out n h = short_out (dec_le n 32000) h
-
-pub delay-bits : (d : Delay) → delay_of d.bits ≡ Some d
-delay-bits d = delay_in d.bits d.bounded
 
 abbrev pub number : (high n : ℕ) → n ≤ high → Number high
 number high n h = record { value = n; high = h }
@@ -129,10 +103,6 @@ pub minislot_long : (offset length : ℕ) → 53 < offset + length → minislot_
 unfolding minislot_of
 minislot_long offset length h = part_long offset length (dec_le 1 length) (dec_le (offset + length) 53) h
 
-pub minislot_out : (offset length : ℕ) → (leb 1 length && leb (offset + length) 53) ≡ false → minislot_of offset length ≡ None
-minislot_out offset length e =
-    ⊎_elim (λ a. minislot_empty offset length (leb-false 1 length a)) (λ b. minislot_long offset length (leb-false (offset + length) 53 b)) (and_cases (leb 1 length) (leb (offset + length) 53) e)
-
 pub minislot_parts : (m : Minislot) → minislot_of m.offset m.length ≡ Some m
 minislot_parts m = minislot_in m.offset m.length m.some m.inside
 
@@ -146,13 +116,13 @@ pub within_is : (low high n : ℕ) (x : Bounded low high) → within low high n 
 unfolding within
 within_is low high n x h = between_is (dec_le low n) (dec_le n high) x h
 
-short_is : {n : ℕ} (e : Dec (n ≤ 32000)) (d : Delay) → short e ≡ Some d → d.bits ≡ n
-short_is (yes b) d h = cc
-short_is (no b) d h = cc
+below_is : {high n : ℕ} (e : Dec (n ≤ high)) (x : Number high) → below e ≡ Some x → x.value ≡ n
+below_is (yes b) x h = cc
+below_is (no b) x h = cc
 
-pub delay_is : (n : ℕ) (d : Delay) → delay_of n ≡ Some d → d.bits ≡ n
-unfolding delay_of
-delay_is n d h = short_is (dec_le n 32000) d h
+pub up_to_is : (high n : ℕ) (x : Number high) → up_to high n ≡ Some x → x.value ≡ n
+unfolding up_to
+up_to_is high n x h = below_is (dec_le n high) x h
 
 part_is : (offset length : ℕ) (d : Dec (1 ≤ length)) (e : Dec (offset + length ≤ 53)) (m : Minislot) → part offset length d e ≡ Some m → (m.offset ≡ offset) × (m.length ≡ length)
 part_is offset length (yes a) (yes b) m h = (cc, cc)

@@ -1,18 +1,16 @@
 -- Equalization delays.
-use Rattle.std.specs.Prelude.{ℕ, ◌≤◌, Some, None, Option}
-use Rattle.std.proofs.Common.{lit≤}
-use Rattle.std.proofs.Math.Decide.{dec_le}
-use Rattle.field.specs.declared.delay.Delay.{Delay}
+use Rattle.std.specs.Prelude.{ℕ, Option}
+use Rattle.field.specs.declared.number.Number.{Number}
+use Rattle.field.specs.Number.{up_to, nought}
 
--- a delay that is shown to be no longer than 32,000 bits
-abbrev pub short : {n : ℕ} → Dec (n ≤ 32000) → Option Delay
-short {n} (yes fits) = Some (record { bits = n; bounded = fits })
-short (no beyond) = None
+-- a number of bits, at most 32,000
+abbrev pub Delay : Type 0
+Delay = Number 32000
 
 -- the delay of n bits, or none above 32,000
-unfoldable pub delay_of : ℕ → Option Delay
-delay_of n = short (dec_le n 32000)
+abbrev pub delay_of : ℕ → Option Delay
+delay_of n = up_to 32000 n
 
 -- no delay at all
 abbrev pub no_delay : Delay
-no_delay = record { bits = 0; bounded = lit≤ tt }
+no_delay = nought 32000

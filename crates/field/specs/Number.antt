@@ -1,5 +1,6 @@
 -- Numbers with a greatest value.
 use Rattle.std.specs.Prelude.{ℕ, ◌≤◌, min, Some, None, Option}
+use Rattle.std.proofs.Common.{zero-le}
 use Rattle.std.proofs.Math.Nat.{min-le_right}
 use Rattle.std.proofs.Math.Decide.{dec_le}
 use Rattle.field.specs.declared.number.Number.{Number}
@@ -16,3 +17,7 @@ up_to high n = below (dec_le n high)
 -- n as such a value, or the greatest where n is greater
 unfoldable pub capped : (high n : ℕ) → Number high
 capped high n = record { value = min n high; high = min-le_right n high }
+
+-- 0 as such a value
+unfoldable pub nought : (high : ℕ) → Number high
+nought high = record { value = 0; high = zero-le }

@@ -1,10 +1,4 @@
-// An equalization delay: no delay outside 0 to 32,000 bits can exist.
-ghost use Rattle.std.specs.Prelude.{◌≤◌};
+// An equalization delay in bits: none outside 0 to 32,000 can exist.
+use crate::number::Number;
 
-pub mod calls;
-
-#[derive(Clone, Copy, PartialEq, Eq)]
-pub struct Delay {
-    bits: u32,
-    ghost bounded: { bits ≤ 32000 },
-}
+pub type Delay = Number<32000>;

@@ -16,10 +16,10 @@ pub enum Grant {
     Idle,
 }
 
-impl Grant {
-    pub fn from_byte(byte: u8) -> Grant
-        ensures { result ≡ grant_of byte }
-    {
+impl From<u8> for Grant {
+    ghost from_gives = { λ byte grant. grant ≡ grant_of byte };
+
+    fn from(byte: u8) -> Grant {
         match GrantCode::new(byte) {
             Some(code) => Grant::Code(code),
             None => match byte {
@@ -29,23 +29,27 @@ impl Grant {
             },
         }
     }
+}
 
-    pub fn byte(self) -> u8
-        ensures { result ≡ code_of self }
-    {
-        match self {
+impl From<Grant> for u8 {
+    ghost from_gives = { λ grant byte. byte ≡ code_of grant };
+
+    fn from(grant: Grant) -> u8 {
+        match grant {
             Grant::Code(code) => code.value(),
             Grant::Ranging => 253,
             Grant::Unassigned => 254,
             Grant::Idle => 255,
         }
     }
+}
 
+impl Grant {
     // A grant and its byte stand for each other.
     pub fn through_byte(self) -> Grant
         ensures value { result ≡ self }
         ensures law { GrantAndByteAgree }
     {
-        Grant::from_byte(self.byte())
+        Grant::from(u8::from(self))
     }
 }

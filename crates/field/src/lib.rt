@@ -4,6 +4,7 @@
 pub mod bounded;
 pub mod bytes;
 pub mod check;
+pub mod coded;
 pub mod delay;
 pub mod grant;
 pub mod grants;

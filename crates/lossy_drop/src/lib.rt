@@ -2,14 +2,14 @@
 #![tactic(auto)]
 
 ghost use Rattle.std.specs.Prelude.{◌≡◌, length};
-ghost use Rattle.plant.specs.Hearing.{Hearing};
-ghost use Rattle.lossy_drop.specs.LossyDrop.{wrong, spoiled, lowest, turned, sent_on, DropDoes};
+ghost use Rattle.lossy_drop.specs.LossyDrop.{wrong, spoiled, lowest, turned, DropDoes};
 ghost use Rattle.lossy_drop.specs.Deaf.{drop_lawful};
 ghost use Rattle.std.proofs.Common.{rules};
 
+use cell::fault::Group;
+use cell::reader::Cell;
 use field::check::{check_byte, check_byte_and_zero};
 use plant::burst::Burst;
-use plant::hearing::HearFault;
 use plant::plant::Plant;
 
 // 64 bits, the lowest first, over and over: a cell at a 1 is spoiled.
@@ -23,21 +23,21 @@ pub struct LossyDrop<P> {
 fn wrong_byte(right: u8) -> u8
     ensures { result ≡ wrong right }
 {
-    if right == 0 { 1 } else { 0 }
+    u8::from(right == 0)
 }
 
 // A copy of a cell with all five check bytes wrong.
-fn spoil(payload: &[u8]) -> [u8; 48]
-    requires { length payload.now ≡ 48 }
-    ensures { result ≡ spoiled payload.now }
+#[tactic(auto, unfolding(crate::specs::LossyDrop::spoiled))]
+fn spoil(cell: &Cell) -> [u8; 48]
+    requires { length cell.now.bytes.now ≡ 48 }
+    ensures { result ≡ spoiled cell.now.bytes.now }
 {
-    let mut copy = [0; 48];
-    copy.copy_from_slice(payload);
-    copy[10] = wrong_byte(check_byte(&payload[3..10]));
-    copy[18] = wrong_byte(check_byte(&payload[11..18]));
-    copy[26] = wrong_byte(check_byte(&payload[19..26]));
-    copy[33] = wrong_byte(check_byte_and_zero(&payload[27..33]));
-    copy[46] = wrong_byte(check_byte(&payload[34..46]));
+    let mut copy = *cell.bytes;
+    copy[10] = wrong_byte(check_byte(cell.group(Group::First)));
+    copy[18] = wrong_byte(check_byte(cell.group(Group::Second)));
+    copy[26] = wrong_byte(check_byte(cell.group(Group::Third)));
+    copy[33] = wrong_byte(check_byte_and_zero(cell.group(Group::Fourth)));
+    copy[46] = wrong_byte(check_byte(cell.message_bytes()));
     copy
 }
 
@@ -51,7 +51,7 @@ fn is_spoiled(pattern: u64) -> bool
 fn turn(pattern: u64) -> u64
     ensures { result ≡ turned pattern }
 {
-    pattern / 2 + pattern % 2 * 9223372036854775808
+    pattern.rotate_right(1)
 }
 
 impl<P> LossyDrop<P> {
@@ -60,24 +60,6 @@ impl<P> LossyDrop<P> {
     {
         LossyDrop { plant, pattern }
     }
-}
-
-// What goes on to the plant behind.
-fn pass<P: Plant>(
-    plant: &mut P,
-    pattern: u64,
-    payload: &[u8],
-    first: u64,
-    bursts: &mut Vec<Burst>,
-) -> Result<(), HearFault>
-    requires { length payload.now ≡ 48 }
-    ensures { Hearing P.Plant.does (length (P.Plant.means plant.old)) plant.old (sent_on pattern payload.now) first bursts.old plant.new bursts.new result }
-{
-    if is_spoiled(pattern) {
-        let copy = spoil(payload);
-        return plant.hear(&copy, first, bursts);
-    }
-    plant.hear(payload, first, bursts)
 }
 
 impl<P: Plant> Plant for LossyDrop<P> {
@@ -95,21 +77,13 @@ impl<P: Plant> Plant for LossyDrop<P> {
         self.plant.count()
     }
 
-    fn hear(
-        &mut self,
-        payload: &[u8],
-        first: u64,
-        bursts: &mut Vec<Burst>,
-    ) -> Result<(), HearFault> {
-        if payload.len() != 48 {
-            return Err(HearFault::Length);
+    fn accept(&mut self, cell: &Cell, first: u64, bursts: &mut Vec<Burst>) {
+        if is_spoiled(self.pattern) {
+            let bytes = &spoil(cell);
+            self.plant.accept(&Cell { bytes }, first, bursts);
+        } else {
+            self.plant.accept(cell, first, bursts);
         }
-        match pass(&mut self.plant, self.pattern, payload, first, bursts) {
-            Ok(()) => {
-                self.pattern = turn(self.pattern);
-                Ok(())
-            }
-            Err(fault) => Err(fault),
-        }
+        self.pattern = turn(self.pattern);
     }
 }

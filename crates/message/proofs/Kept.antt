@@ -8,15 +8,14 @@ use Rattle.std.proofs.lemmas.Result.{IfOk-at_ok}
 use Rattle.std.proofs.lemmas.Bool.{cases_lt, cases_Bool, cond_both, eqb-true, eqb-false, leb-true, and_parts}
 use Rattle.std.specs.Option.{ok_or}
 use Rattle.field.specs.declared.bounded.Bounded.{Bounded}
-use Rattle.field.specs.declared.delay.Delay.{Delay}
+use Rattle.field.specs.Delay.{Delay, delay_of}
 use Rattle.field.specs.declared.minislot.Minislot.{Minislot}
 use Rattle.field.specs.Bounded.{within}
 use Rattle.field.specs.Minislot.{minislot_of}
 use Rattle.field.specs.Number.{capped}
-use Rattle.field.specs.Delay.{delay_of}
 use Rattle.field.specs.Bytes.{at, then, triple, word_of, serial_of, ten_of}
 use Rattle.field.specs.Octets.{picked, octets_of}
-use Rattle.field.proofs.Bounds.{delay_is, minislot_is, capped-value}
+use Rattle.field.proofs.Bounds.{up_to_is, minislot_is, capped-value}
 use Rattle.field.proofs.Numbers.{triple_kept, word_kept, serial_kept}
 use Rattle.field.proofs.Readings.{then_made, test_made, ok_or_made, within_made}
 use Rattle.message.specs.declared.downstream.Downstream.{Downstream}
@@ -129,8 +128,8 @@ module _ (b : List ℕ) (small : (k : ℕ) → at b k < 256) where
   if_flag : (n : ℕ) (field : Field) (f : Bool → Reading) → ((a : Bool) → flag_byte a ≡ n → IfOk (f a) (Kept b)) → IfOk (then (flag_of n field) f) (Kept b)
   if_flag n field f = then_made (λ a. flag_byte a ≡ n) (Kept b) (flag_of n field) f (flag_made n field)
 
-  if_delay : (n : ℕ) (f : Delay → Reading) → ((d : Delay) → d.bits ≡ n → IfOk (f d) (Kept b)) → IfOk (then (delay_field n) f) (Kept b)
-  if_delay n f = then_made (λ d. d.bits ≡ n) (Kept b) (delay_field n) f (ok_or_made (λ d. d.bits ≡ n) (delay_of n) _ (delay_is n))
+  if_delay : (n : ℕ) (f : Delay → Reading) → ((d : Delay) → d.value ≡ n → IfOk (f d) (Kept b)) → IfOk (then (delay_field n) f) (Kept b)
+  if_delay n f = then_made (λ d. d.value ≡ n) (Kept b) (delay_field n) f (ok_or_made (λ d. d.value ≡ n) (delay_of n) _ (up_to_is 32000 n))
 
   if_allocation : (code active : ℕ) (w v : Field) (f : Allocation → Reading) → ((a : Allocation) → Allots code active a → IfOk (f a) (Kept b)) → IfOk (then (allocation_of code active w v) f) (Kept b)
   if_allocation code active w v f = then_made (Allots code active) (Kept b) (allocation_of code active w v) f (allocation_made code active w v)
@@ -159,9 +158,9 @@ module _ (b : List ℕ) (small : (k : ℕ) → at b k < 256) where
       if_within 4 24 (at b 2) _ _ (λ g c.
       if_delay _ _ (λ d e.
       each 12 _ _ (⊎_elim
-      (λ (t : eqb d.bits 0 ≡ true). rw t (simp mod-one (cc)))
-      (λ (t : eqb d.bits 0 ≡ false). let given = given_is (at b 8) (triple b 9) d.bits e t in rw t (simp mod-one (cc)))
-      (cases_Bool (eqb d.bits 0))))))
+      (λ (t : eqb d.value 0 ≡ true). rw t (simp mod-one (cc)))
+      (λ (t : eqb d.value 0 ≡ false). let given = given_is (at b 8) (triple b 9) d.value e t in rw t (simp mod-one (cc)))
+      (cases_Bool (eqb d.value 0))))))
 
   ranging_kept : at b 1 ≡ 3 → IfOk (ranging_of b) (Kept b)
   ranging_kept k =

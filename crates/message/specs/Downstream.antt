@@ -3,11 +3,10 @@
 use Rattle.std.specs.Prelude.{◌≡◌, ℕ, ◌+◌, ◌*◌, ◌/◌, ◌%◌, Bool, true, false, cond, ◌&&◌, List, [], ◌∷◌, ◌++◌, replicate, Ok, Err, Result, ◌==◌, nat_le, nat_lt}
 use Rattle.std.specs.Option.{ok_or}
 use Rattle.field.specs.declared.bounded.Bounded.{Bounded}
-use Rattle.field.specs.declared.delay.Delay.{Delay}
+use Rattle.field.specs.Delay.{Delay, delay_of}
 use Rattle.field.specs.declared.minislot.Minislot.{Minislot}
 use Rattle.field.specs.declared.octets.Octets.{Octets}
 use Rattle.field.specs.Bounded.{within}
-use Rattle.field.specs.Delay.{delay_of}
 use Rattle.field.specs.Minislot.{minislot_of}
 use Rattle.field.specs.Number.{capped}
 use Rattle.field.specs.Octets.{picked, octets_of}
@@ -224,10 +223,10 @@ rx_bytes (Second octets) = 64 ∷ 1 ∷ 1 ∷ picked 0 7 octets.bytes ++ 0 ∷ 0
 -- a pre-assigned delay of 0 is told by the flag alone
 abbrev pub overhead_bytes : Bounded 4 24 → Octets 3 → Delay → List ℕ
 overhead_bytes guard overhead delay =
-    64 ∷ 2 ∷ guard.value ∷ picked 0 3 overhead.bytes ++ 0 ∷ 0 ∷ cond (delay.bits == 0) 0 1 ∷ triple_bytes delay.bits
+    64 ∷ 2 ∷ guard.value ∷ picked 0 3 overhead.bytes ++ 0 ∷ 0 ∷ cond (delay.value == 0) 0 1 ∷ triple_bytes delay.value
 
 abbrev pub delay_bytes : Bounded 0 63 → Delay → List ℕ
-delay_bytes p delay = plain_bytes p.value 3 (triple_bytes delay.bits)
+delay_bytes p delay = plain_bytes p.value 3 (triple_bytes delay.value)
 
 abbrev pub slot_bytes : Bounded 0 63 → Allocation → Minislot → ℕ → List ℕ
 slot_bytes p slot part service =

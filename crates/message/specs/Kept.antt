@@ -1,6 +1,6 @@
 -- Which bytes a message specifies, and what writing keeps of the bytes that were read.
 use Rattle.std.specs.Prelude.{◌≡◌, ℕ, ◌-◌, ◌%◌, ◌<◌, cond, List, [], ◌∷◌, ◌++◌, replicate, Ok, Result, ◌==◌}
-use Rattle.field.specs.declared.delay.Delay.{Delay}
+use Rattle.field.specs.Delay.{Delay}
 use Rattle.field.specs.Bytes.{at, then}
 use Rattle.message.specs.declared.downstream.RxPart.{RxPart}
 use Rattle.message.specs.declared.downstream.RxPart.TheVariants.{First, Second}
@@ -50,7 +50,7 @@ access_scope (Allow number) = first 11
 
 -- a pre-assigned delay other than 0 is told by the lowest bit of byte 8 and by bytes 9 to 11
 abbrev pub delay_scope : Delay → List ℕ
-delay_scope delay = cond (delay.bits == 0) (1 ∷ 1 ∷ 1 ∷ 1 ∷ []) (2 ∷ 256 ∷ 256 ∷ 256 ∷ [])
+delay_scope delay = cond (delay.value == 0) (1 ∷ 1 ∷ 1 ∷ 1 ∷ []) (2 ∷ 256 ∷ 256 ∷ 256 ∷ [])
 
 abbrev pub scope : Downstream → List ℕ
 scope NoMessage = first 2

@@ -1,2 +1,3 @@
 pub mod Downstream
 pub mod Kept
+pub mod Laws

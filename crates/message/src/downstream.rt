@@ -5,9 +5,10 @@ use field::minislot::Minislot;
 use field::number::{Count, SerialNumber, Vpi};
 use field::octets::Octets;
 
+mod coded;
 pub mod laws;
-pub mod read;
-pub mod write;
+mod read;
+mod write;
 
 // One ONU or all.
 #[derive(Clone, Copy)]

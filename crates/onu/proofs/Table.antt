@@ -2,32 +2,11 @@
 use Rattle.std.proofs.Common.{◌≡◌, Bool, true, false, cond, ◌&&◌, ◌⊎◌, Some, None, Option, refl, inl, inr, arith}
 use Rattle.std.proofs.lemmas.Bool.Decides.{nat_tests}
 use Rattle.field.specs.declared.bounded.Bounded.{Bounded}
-use Rattle.field.specs.declared.delay.Delay.{Delay}
+use Rattle.field.specs.Delay.{Delay}
 use Rattle.message.specs.declared.downstream.Access.{Access}
 use Rattle.message.specs.declared.downstream.Access.TheVariants.{Deny, AllowAll, Allow}
 use Rattle.message.specs.declared.downstream.Downstream.{Downstream}
-use Rattle.message.specs.declared.downstream.Downstream.TheVariants.{
-  NoMessage,
-  UpstreamRxControl,
-  UpstreamOverhead,
-  RangingTime,
-  SerialNumberMask,
-  AssignPonId,
-  DeactivatePonId,
-  DisableSerialNumber,
-  NewChurningKeyRequest,
-  ChurningKeyUpdate,
-  GrantAllocation,
-  DividedSlotGrant,
-  ConfigureVpVc,
-  PhysicalEquipmentError,
-  RequestPassword,
-  ChurnedVp,
-  Popup,
-  VendorSpecific,
-  Pst,
-  BerInterval,
-}
+use Rattle.message.specs.declared.downstream.Downstream.TheVariants.{UpstreamOverhead, RangingTime, SerialNumberMask, AssignPonId, DeactivatePonId, DisableSerialNumber, GrantAllocation, Popup}
 use Rattle.onu.specs.declared.event.Event.{Event}
 use Rattle.onu.specs.declared.event.Event.TheVariants.{Message, Own}
 use Rattle.onu.specs.declared.event.OwnEvent.{OwnEvent}
@@ -72,18 +51,7 @@ obeyed_keeps (RangingTime p delay) o h =
 obeyed_keeps (DeactivatePonId to) o h =
     either_keeps (inside 3 8 o) (meant to o) (restarted O2 o) o (λ k. refl) h
 obeyed_keeps (DisableSerialNumber access) o h = disabled_keeps access o h
-obeyed_keeps NoMessage o h = h
-obeyed_keeps (UpstreamRxControl part) o h = h
-obeyed_keeps (NewChurningKeyRequest p) o h = h
-obeyed_keeps (ChurningKeyUpdate p count) o h = h
-obeyed_keeps (DividedSlotGrant p slot part service) o h = h
-obeyed_keeps (ConfigureVpVc p active header mask) o h = h
-obeyed_keeps PhysicalEquipmentError o h = h
-obeyed_keeps (RequestPassword p) o h = h
-obeyed_keeps (ChurnedVp p churned vpi) o h = h
-obeyed_keeps (VendorSpecific to kind body) o h = h
-obeyed_keeps (Pst line k1 k2) o h = h
-obeyed_keeps (BerInterval p frames) o h = h
+obeyed_keeps _ o h = h
 
 pub happened_keeps : (e : OwnEvent) (o : Onu) → sound o ≡ true → sound (happened e o) ≡ true
 happened_keeps PowerSetUp o h = grind (arith, nat_tests)
@@ -98,8 +66,7 @@ stepped_keeps (Message m) o h = obeyed_keeps m o h
 stepped_keeps (Own e) o h = happened_keeps e o h
 
 masked_stop : (fits : Bool) (o : Onu) → inside 9 9 o ≡ true → masked fits o ≡ o
-masked_stop true o h = grind (arith, nat_tests)
-masked_stop false o h = grind (arith, nat_tests)
+masked_stop fits o h = grind (arith, nat_tests)
 
 obeyed_stop : (m : Downstream) (o : Onu) → inside 9 9 o ≡ true → (obeyed m o ≡ o) ⊎ Released o (Message m)
 obeyed_stop (UpstreamOverhead guard overhead delay) o h = inl (grind (arith, nat_tests))
@@ -112,32 +79,15 @@ obeyed_stop (DeactivatePonId to) o h = inl (grind (arith, nat_tests))
 obeyed_stop (DisableSerialNumber (Deny serial)) o h = inl (grind (arith, nat_tests))
 obeyed_stop (DisableSerialNumber AllowAll) o h = inr with_all
 obeyed_stop (DisableSerialNumber (Allow serial)) o h =
-    let split : (b : Bool) → named serial o ≡ b → (disabled (Allow serial) o ≡ o) ⊎ Released o (Message (DisableSerialNumber (Allow serial))) = by_name in
-    split (named serial o) refl
+    by_name (named serial o) refl
   where
     by_name : (b : Bool) → named serial o ≡ b → (disabled (Allow serial) o ≡ o) ⊎ Released o (Message (DisableSerialNumber (Allow serial)))
     by_name true e = inr (alone serial e)
     by_name false e = inl (grind (arith, nat_tests))
-obeyed_stop NoMessage o h = inl refl
-obeyed_stop (UpstreamRxControl part) o h = inl refl
-obeyed_stop (NewChurningKeyRequest p) o h = inl refl
-obeyed_stop (ChurningKeyUpdate p count) o h = inl refl
-obeyed_stop (DividedSlotGrant p slot part service) o h = inl refl
-obeyed_stop (ConfigureVpVc p active header mask) o h = inl refl
-obeyed_stop PhysicalEquipmentError o h = inl refl
-obeyed_stop (RequestPassword p) o h = inl refl
-obeyed_stop (ChurnedVp p churned vpi) o h = inl refl
-obeyed_stop (VendorSpecific to kind body) o h = inl refl
-obeyed_stop (Pst line k1 k2) o h = inl refl
-obeyed_stop (BerInterval p frames) o h = inl refl
+obeyed_stop _ o h = inl refl
 
 happened_stop : (e : OwnEvent) (o : Onu) → inside 9 9 o ≡ true → happened e o ≡ o
-happened_stop PowerSetUp o h = grind (arith, nat_tests)
-happened_stop SecondTimer o h = grind (arith, nat_tests)
-happened_stop FirstTimer o h = grind (arith, nat_tests)
-happened_stop SignalLoss o h = grind (arith, nat_tests)
-happened_stop SignalReturn o h = grind (arith, nat_tests)
-happened_stop PowerLoss o h = grind (arith, nat_tests)
+happened_stop e o h = grind (arith, nat_tests)
 
 pub stop_stands : (e : Event) (o : Onu) → inside 9 9 o ≡ true → (stepped e o ≡ o) ⊎ Released o e
 stop_stands (Message m) o h = obeyed_stop m o h

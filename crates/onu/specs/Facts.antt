@@ -10,7 +10,7 @@ use Rattle.onu.specs.Onu.{inside, named, stepped}
 
 -- in O3 to O7 the register is the pre-assigned delay
 abbrev pub level : Onu → Bool
-level o = cond (inside 3 7 o) (o.register.bits == o.preset.bits) true
+level o = cond (inside 3 7 o) (o.register.value == o.preset.value) true
 
 -- a PON_ID is held in O5 to O8 and in O10 only, a code in O7, O8 and O10 only
 abbrev pub placed : Onu → Bool

@@ -1,37 +1,15 @@
 -- The ONU's state table: what each event makes of an ONU.
 use Rattle.std.specs.Prelude.{ℕ, ◌%◌, ◌^◌, Bool, true, false, cond, ◌&&◌, Some, None, Option, ◌==◌, nat_le}
 use Rattle.field.specs.declared.bounded.Bounded.{Bounded}
-use Rattle.field.specs.declared.delay.Delay.{Delay}
 use Rattle.field.specs.declared.number.Number.{Number}
-use Rattle.field.specs.Delay.{no_delay}
+use Rattle.field.specs.Delay.{Delay, no_delay}
 use Rattle.message.specs.declared.downstream.Access.{Access}
 use Rattle.message.specs.declared.downstream.Access.TheVariants.{Deny, AllowAll, Allow}
 use Rattle.message.specs.declared.downstream.Address.{Address}
 use Rattle.message.specs.declared.downstream.Address.TheVariants.{One, All}
 use Rattle.message.specs.declared.downstream.Allocation.{Allocation}
 use Rattle.message.specs.declared.downstream.Downstream.{Downstream}
-use Rattle.message.specs.declared.downstream.Downstream.TheVariants.{
-  NoMessage,
-  UpstreamRxControl,
-  UpstreamOverhead,
-  RangingTime,
-  SerialNumberMask,
-  AssignPonId,
-  DeactivatePonId,
-  DisableSerialNumber,
-  NewChurningKeyRequest,
-  ChurningKeyUpdate,
-  GrantAllocation,
-  DividedSlotGrant,
-  ConfigureVpVc,
-  PhysicalEquipmentError,
-  RequestPassword,
-  ChurnedVp,
-  Popup,
-  VendorSpecific,
-  Pst,
-  BerInterval,
-}
+use Rattle.message.specs.declared.downstream.Downstream.TheVariants.{UpstreamOverhead, RangingTime, SerialNumberMask, AssignPonId, DeactivatePonId, DisableSerialNumber, GrantAllocation, Popup}
 use Rattle.onu.specs.declared.event.Event.{Event}
 use Rattle.onu.specs.declared.event.Event.TheVariants.{Message, Own}
 use Rattle.onu.specs.declared.event.OwnEvent.{OwnEvent}
@@ -67,11 +45,11 @@ named serial o = serial.value == o.serial.value
 
 -- to another state, all else kept
 abbrev pub moved : State → Onu → Onu
-moved s o = record { serial = o.serial; state = s; id = o.id; grant = o.grant; ploam = o.ploam; preset = o.preset; register = o.register; trip = o.trip }
+moved s o = record o { state = s }
 
 -- to another state without PON_ID and codes, and with these two delays
 abbrev pub lapsed : State → (preset register : Delay) → Onu → Onu
-lapsed s e d o = record { serial = o.serial; state = s; id = None; grant = None; ploam = None; preset = e; register = d; trip = o.trip }
+lapsed s e d o = record o { state = s; id = None; grant = None; ploam = None; preset = e; register = d }
 
 -- to O1 or to O2: the pre-assigned delay is given up too, the register stays until O3 sets it
 abbrev pub restarted : State → Onu → Onu
@@ -82,7 +60,7 @@ abbrev pub readied : Delay → Onu → Onu
 readied e o = lapsed O3 e e o
 
 abbrev pub assigned : Bounded 0 63 → Onu → Onu
-assigned p o = record { serial = o.serial; state = o.state; id = Some p; grant = o.grant; ploam = o.ploam; preset = o.preset; register = o.register; trip = o.trip }
+assigned p o = record o { id = Some p }
 
 -- a code that is not active is none
 abbrev pub code_in : Allocation → Option (Bounded 0 252)
@@ -90,14 +68,14 @@ code_in a = cond a.active (Some a.code) None
 
 -- to O7 with a code for data cells and one for PLOAM cells, or without
 abbrev pub coded : (grant ploam : Option (Bounded 0 252)) → Onu → Onu
-coded c d o = record { serial = o.serial; state = O7; id = o.id; grant = c; ploam = d; preset = o.preset; register = o.register; trip = o.trip }
+coded c d o = record o { state = O7; grant = c; ploam = d }
 
 abbrev pub allocated : (grant ploam : Allocation) → Onu → Onu
 allocated g d o = coded (code_in g) (code_in d) o
 
 -- to a state in which the register holds a delay
 abbrev pub delayed : State → Delay → Onu → Onu
-delayed s d o = record { serial = o.serial; state = s; id = o.id; grant = o.grant; ploam = o.ploam; preset = o.preset; register = d; trip = o.trip }
+delayed s d o = record o { state = s; register = d }
 
 -- the n lowest bits are those of the ONU's serial number
 abbrev pub matches : Bounded 0 64 → Number 18446744073709551615 → Onu → Bool
@@ -129,18 +107,7 @@ obeyed Popup o = cond (inside 10 10 o) (delayed O7 o.preset o) o
 obeyed (RangingTime p delay) o = cond (inside 7 8 o && has o.id p.value) (delayed O8 delay o) o
 obeyed (DeactivatePonId to) o = cond (inside 3 8 o && meant to o) (restarted O2 o) o
 obeyed (DisableSerialNumber access) o = disabled access o
-obeyed NoMessage o = o
-obeyed (UpstreamRxControl part) o = o
-obeyed (NewChurningKeyRequest p) o = o
-obeyed (ChurningKeyUpdate p count) o = o
-obeyed (DividedSlotGrant p slot part service) o = o
-obeyed (ConfigureVpVc p active header mask) o = o
-obeyed PhysicalEquipmentError o = o
-obeyed (RequestPassword p) o = o
-obeyed (ChurnedVp p churned vpi) o = o
-obeyed (VendorSpecific to kind body) o = o
-obeyed (Pst line k1 k2) o = o
-obeyed (BerInterval p frames) o = o
+obeyed _ o = o
 
 -- Own events, row by row. Power loss forgets everything, but an ONU that was told to stop stays stopped.
 abbrev pub happened : OwnEvent → Onu → Onu

@@ -1,18 +1,19 @@
 // How an ONU answers grants.
 ghost use Rattle.std.specs.Prelude.{◌≡◌};
-ghost use Rattle.onu.specs.Answer.{kind_number, holds_code, kind_for, number_message, number_octets, said_by};
+ghost use Rattle.onu.specs.Answer.{kind_number, kind_for, number_message, number_octets, said_by};
 
-use crate::state::Onu;
+use crate::state::{Onu, State};
 use field::bounded::GrantCode;
+use field::coded::Coded;
 use field::grant::Grant;
 use field::octets::Octets;
 use upstream::message::Upstream;
 
 // What an ONU sends in a slot.
-#[derive(Clone, Copy)]
+#[derive(Clone, Copy, PartialEq, Eq)]
 pub enum Kind {
-    Ploam,
-    Data,
+    Ploam = 2,
+    Data = 3,
 }
 
 impl Kind {
@@ -20,19 +21,7 @@ impl Kind {
     pub fn number(self) -> u8
         ensures { result ≡ kind_number self }
     {
-        match self {
-            Kind::Ploam => 2,
-            Kind::Data => 3,
-        }
-    }
-}
-
-fn holds_code(held: Option<GrantCode>, code: GrantCode) -> bool
-    ensures { result ≡ holds_code held code }
-{
-    match held {
-        Some(own) => own.value() == code.value(),
-        None => false,
+        self as u8
     }
 }
 
@@ -40,9 +29,9 @@ impl Onu {
     fn answer_code(&self, code: GrantCode) -> Option<Kind>
         ensures { result ≡ kind_for (Grant.Code code) self.now }
     {
-        if self.within(8, 8) && holds_code(self.grant, code) {
+        if self.state == State::O8 && self.grant == Some(code) {
             Some(Kind::Data)
-        } else if self.within(7, 8) && holds_code(self.ploam, code) {
+        } else if matches!(self.state, State::O7 | State::O8) && self.ploam == Some(code) {
             Some(Kind::Ploam)
         } else {
             None
@@ -55,13 +44,7 @@ impl Onu {
     {
         match grant {
             Grant::Code(code) => self.answer_code(code),
-            Grant::Ranging => {
-                if self.within(4, 4) || self.within(6, 6) {
-                    Some(Kind::Ploam)
-                } else {
-                    None
-                }
-            }
+            Grant::Ranging => matches!(self.state, State::O4 | State::O6).then_some(Kind::Ploam),
             Grant::Unassigned | Grant::Idle => None,
         }
     }
@@ -70,13 +53,18 @@ impl Onu {
     fn number_message(&self) -> Upstream
         ensures { result ≡ number_message self.now }
     {
-        let source = if self.within(6, 6) { None } else { self.id };
+        let source = if self.state == State::O6 {
+            None
+        } else {
+            self.id
+        };
         Upstream::SerialNumberOnu {
             source,
             serial: self.serial,
         }
     }
 
+    #[tactic(auto, unfolding(crate::specs::Answer::number_octets))]
     fn number_octets(&self) -> Octets<12>
         ensures { result ≡ number_octets self.now }
     {
@@ -87,10 +75,9 @@ impl Onu {
     pub fn saying(&self, free: Octets<12>) -> Octets<12>
         ensures { result ≡ said_by free self.now }
     {
-        if self.within(6, 7) {
-            self.number_octets()
-        } else {
-            free
+        match self.state {
+            State::O6 | State::O7 => self.number_octets(),
+            _ => free,
         }
     }
 }

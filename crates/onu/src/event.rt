@@ -1,7 +1,7 @@
 // What can happen to an ONU: a message of the head, or something of its own.
 use message::downstream::Downstream;
 
-#[derive(Clone, Copy)]
+#[derive(Clone, Copy, PartialEq, Eq)]
 pub enum OwnEvent {
     SignalLoss,
     SignalReturn,

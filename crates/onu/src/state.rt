@@ -6,26 +6,26 @@ use field::number::{Number, SerialNumber};
 // Bits from a grant's slot to its answer at the head, response time included, without any delay.
 pub type RoundTrip = Number<1000000>;
 
-#[derive(Clone, Copy)]
+#[derive(Clone, Copy, PartialEq, Eq)]
 pub enum State {
     // no good signal yet
-    O1,
+    O1 = 1,
     // waits for the overhead
-    O2,
+    O2 = 2,
     // sets up its optical power
-    O3,
-    O4,
+    O3 = 3,
+    O4 = 4,
     // waits for a PON_ID and for codes
-    O5,
-    O6,
+    O5 = 5,
+    O6 = 6,
     // is measured
-    O7,
+    O7 = 7,
     // operates
-    O8,
+    O8 = 8,
     // was told to stop
-    O9,
+    O9 = 9,
     // has lost its signal while it operated
-    O10,
+    O10 = 10,
 }
 
 #[derive(Clone, Copy)]

@@ -1,11 +1,11 @@
 // What an event makes of an ONU.
-ghost use Rattle.std.specs.Prelude.{◌≡◌, ◌%◌, ◌^◌, cond, Some, None};
-ghost use Rattle.field.specs.declared.bounded.Bounded.{Bounded};
-ghost use Rattle.onu.specs.Onu.{number, inside, has, named, meant, matches, lapsed, restarted, readied, code_in, masked, disabled, obeyed, happened, stepped, new_onu};
+ghost use Rattle.std.specs.Prelude.{◌≡◌, ◌%◌, ◌^◌};
+ghost use Rattle.onu.specs.Onu.{number, inside, meant, matches, lapsed, restarted, readied, code_in, allocated, delayed, masked, disabled, obeyed, happened, stepped, new_onu};
 
 use crate::event::{Event, OwnEvent};
+use crate::state::State::{O1, O2, O3, O4, O5, O6, O7, O8, O9, O10};
 use crate::state::{Onu, RoundTrip, State};
-use field::bounded::{GrantCode, MaskLength, PonId};
+use field::bounded::{GrantCode, MaskLength};
 use field::delay::Delay;
 use field::number::SerialNumber;
 use message::downstream::{Access, Address, Allocation, Downstream};
@@ -15,18 +15,7 @@ impl State {
     pub fn number(self) -> u8
         ensures { result ≡ number self }
     {
-        match self {
-            State::O1 => 1,
-            State::O2 => 2,
-            State::O3 => 3,
-            State::O4 => 4,
-            State::O5 => 5,
-            State::O6 => 6,
-            State::O7 => 7,
-            State::O8 => 8,
-            State::O9 => 9,
-            State::O10 => 10,
-        }
+        self as u8
     }
 }
 
@@ -34,11 +23,7 @@ impl State {
 fn code_in(allocation: Allocation) -> Option<GrantCode>
     ensures { result ≡ code_in allocation }
 {
-    if allocation.active {
-        Some(allocation.code)
-    } else {
-        None
-    }
+    allocation.active.then_some(allocation.code)
 }
 
 // The lowest bits of a serial number.
@@ -55,7 +40,7 @@ impl Onu {
     {
         Onu {
             serial,
-            state: State::O1,
+            state: O1,
             id: None,
             grant: None,
             ploam: None,
@@ -69,31 +54,14 @@ impl Onu {
     pub fn within(&self, first: u8, last: u8) -> bool
         ensures { result ≡ inside first last self.now }
     {
-        let number = self.state.number();
-        first <= number && number <= last
-    }
-
-    // Whether it has this PON_ID.
-    fn has_id(&self, id: PonId) -> bool
-        ensures { result ≡ has self.now.id id.value }
-    {
-        match self.id {
-            Some(own) => own.value() == id.value(),
-            None => false,
-        }
-    }
-
-    fn has_serial(&self, serial: SerialNumber) -> bool
-        ensures { result ≡ named serial self.now }
-    {
-        serial.value() == self.serial.value()
+        (first..=last).contains(&self.state.number())
     }
 
     fn is_meant(&self, to: Address) -> bool
         ensures { result ≡ meant to self.now }
     {
         match to {
-            Address::One(id) => self.has_id(id),
+            Address::One(id) => self.id == Some(id),
             Address::All => true,
         }
     }
@@ -108,12 +76,12 @@ impl Onu {
     fn lapse(&mut self, state: State, preset: Delay, register: Delay)
         ensures { self.new ≡ lapsed state preset register self.old }
     {
-        self.state = state;
-        self.id = None;
-        self.grant = None;
-        self.ploam = None;
-        self.preset = preset;
-        self.register = register;
+        *self = Onu {
+            state,
+            preset,
+            register,
+            ..Onu::new(self.serial, self.trip)
+        };
     }
 
     fn restart(&mut self, state: State)
@@ -125,17 +93,33 @@ impl Onu {
     fn ready(&mut self, preset: Delay)
         ensures { self.new ≡ readied preset self.old }
     {
-        self.lapse(State::O3, preset, preset);
+        self.lapse(O3, preset, preset);
     }
 
-    fn mask(&mut self, fits: bool)
-        ensures { self.new ≡ masked fits self.old }
+    fn allocate(&mut self, grant: Allocation, ploam: Allocation)
+        ensures { self.new ≡ allocated grant ploam self.old }
     {
-        match (self.state, fits) {
-            (State::O3, true) => self.state = State::O4,
-            (State::O4, false) => self.ready(self.preset),
-            (State::O5, true) => self.state = State::O6,
-            (State::O6, false) => self.state = State::O5,
+        self.state = O7;
+        self.grant = code_in(grant);
+        self.ploam = code_in(ploam);
+    }
+
+    // To a state in which the register holds a delay.
+    fn delay(&mut self, state: State, delay: Delay)
+        ensures { self.new ≡ delayed state delay self.old }
+    {
+        self.state = state;
+        self.register = delay;
+    }
+
+    fn mask(&mut self, bits: MaskLength, serial: SerialNumber)
+        ensures { self.new ≡ masked (matches bits serial self.old) self.old }
+    {
+        match (self.state, self.fits(bits, serial)) {
+            (O3, true) => self.state = O4,
+            (O4, false) => self.ready(self.preset),
+            (O5, true) => self.state = O6,
+            (O6, false) => self.state = O5,
             _ => {}
         }
     }
@@ -143,69 +127,57 @@ impl Onu {
     fn disable(&mut self, access: Access)
         ensures { self.new ≡ disabled access self.old }
     {
-        match access {
-            Access::Deny(serial) => {
-                if self.within(2, 8) && self.has_serial(serial) {
-                    self.lapse(State::O9, self.preset, self.register);
+        match (access, self.state) {
+            (Access::Deny(serial), O2 | O3 | O4 | O5 | O6 | O7 | O8) => {
+                if self.serial == serial {
+                    self.lapse(O9, self.preset, self.register);
                 }
             }
-            Access::AllowAll => {
-                if self.within(9, 9) {
-                    self.restart(State::O1);
+            (Access::AllowAll, O9) => self.restart(O1),
+            (Access::Allow(serial), O9) => {
+                if self.serial == serial {
+                    self.restart(O1);
                 }
             }
-            Access::Allow(serial) => {
-                if self.within(9, 9) && self.has_serial(serial) {
-                    self.restart(State::O1);
-                }
-            }
+            _ => {}
         }
     }
 
     fn obey(&mut self, message: &Downstream)
         ensures { self.new ≡ obeyed message.now self.old }
     {
-        match *message {
-            Downstream::UpstreamOverhead { delay, .. } => {
-                if self.within(2, 2) {
-                    self.ready(delay);
-                }
-            }
-            Downstream::SerialNumberMask { bits, serial } => self.mask(self.fits(bits, serial)),
-            Downstream::AssignPonId { pon_id, serial } => {
-                if self.within(5, 6) && self.has_serial(serial) {
+        match (*message, self.state) {
+            (Downstream::UpstreamOverhead { delay, .. }, O2) => self.ready(delay),
+            (Downstream::SerialNumberMask { bits, serial }, _) => self.mask(bits, serial),
+            (Downstream::AssignPonId { pon_id, serial }, O5 | O6) => {
+                if self.serial == serial {
                     self.id = Some(pon_id);
                 }
             }
-            Downstream::GrantAllocation {
-                pon_id,
-                grant,
-                ploam,
-            } => {
-                if self.within(5, 6) && self.has_id(pon_id) {
-                    self.state = State::O7;
-                    self.grant = code_in(grant);
-                    self.ploam = code_in(ploam);
+            (
+                Downstream::GrantAllocation {
+                    pon_id,
+                    grant,
+                    ploam,
+                },
+                O5 | O6,
+            ) => {
+                if self.id == Some(pon_id) {
+                    self.allocate(grant, ploam);
                 }
             }
-            Downstream::Popup => {
-                if self.within(10, 10) {
-                    self.state = State::O7;
-                    self.register = self.preset;
+            (Downstream::Popup, O10) => self.delay(O7, self.preset),
+            (Downstream::RangingTime { pon_id, delay }, O7 | O8) => {
+                if self.id == Some(pon_id) {
+                    self.delay(O8, delay);
                 }
             }
-            Downstream::RangingTime { pon_id, delay } => {
-                if self.within(7, 8) && self.has_id(pon_id) {
-                    self.state = State::O8;
-                    self.register = delay;
+            (Downstream::DeactivatePonId { to }, O3 | O4 | O5 | O6 | O7 | O8) => {
+                if self.is_meant(to) {
+                    self.restart(O2);
                 }
             }
-            Downstream::DeactivatePonId { to } => {
-                if self.within(3, 8) && self.is_meant(to) {
-                    self.restart(State::O2);
-                }
-            }
-            Downstream::DisableSerialNumber { access } => self.disable(access),
+            (Downstream::DisableSerialNumber { access }, _) => self.disable(access),
             _ => {}
         }
     }
@@ -213,39 +185,16 @@ impl Onu {
     fn happen(&mut self, event: OwnEvent)
         ensures { self.new ≡ happened event self.old }
     {
-        match event {
-            OwnEvent::PowerSetUp => {
-                if self.within(3, 4) {
-                    self.state = State::O5;
-                }
-            }
-            OwnEvent::SecondTimer => {
-                if self.within(10, 10) {
-                    self.restart(State::O1);
-                }
-            }
-            OwnEvent::FirstTimer => {
-                if self.within(5, 7) {
-                    self.ready(self.preset);
-                }
-            }
-            OwnEvent::SignalLoss => {
-                if self.within(2, 7) {
-                    self.restart(State::O1);
-                } else if self.within(8, 8) {
-                    self.state = State::O10;
-                }
-            }
-            OwnEvent::SignalReturn => {
-                if self.within(1, 1) {
-                    self.restart(State::O2);
-                }
-            }
-            OwnEvent::PowerLoss => {
-                if !self.within(9, 9) {
-                    self.lapse(State::O1, Delay::zero(), Delay::zero());
-                }
-            }
+        match (event, self.state) {
+            (OwnEvent::PowerSetUp, O3 | O4) => self.state = O5,
+            (OwnEvent::SecondTimer, O10) => self.restart(O1),
+            (OwnEvent::FirstTimer, O5 | O6 | O7) => self.ready(self.preset),
+            (OwnEvent::SignalLoss, O2 | O3 | O4 | O5 | O6 | O7) => self.restart(O1),
+            (OwnEvent::SignalLoss, O8) => self.state = O10,
+            (OwnEvent::SignalReturn, O1) => self.restart(O2),
+            (OwnEvent::PowerLoss, O9) => {}
+            (OwnEvent::PowerLoss, _) => self.lapse(O1, Delay::zero(), Delay::zero()),
+            _ => {}
         }
     }
 

@@ -6,7 +6,7 @@ use Rattle.field.specs.declared.grants.Grants.{Grants}
 use Rattle.field.proofs.Runs.{all_picked, grants_again}
 use Rattle.message.specs.Downstream.{downstream_of, bytes_of, flag_byte}
 use Rattle.message.specs.declared.downstream.Downstream.{Downstream}
-use Rattle.message.proofs.RoundTrip.{again}
+use Rattle.message.specs.Laws.{read_back}
 use Rattle.message.proofs.Twelve.{twelve}
 use Rattle.payload.specs.declared.contents.Contents.{Contents}
 use Rattle.cell.specs.declared.fault.CellFault.{CellFault}
@@ -49,7 +49,7 @@ pub cell_again : (c : Contents) → cell_of (cell_bytes c) ≡ Ok c
 cell_again c =
     ap cell_of (cell_out c)
     ∙ out_again c.first c.grants.codes (bytes_of c.message) c.message
-    (ap downstream_of (sym (all_picked 12 (bytes_of c.message) (twelve c.message))) ∙ again c.message)
+    (ap downstream_of (sym (all_picked 12 (bytes_of c.message) (twelve c.message))) ∙ read_back c.message)
     ∙ ap (λ (xs : List ℕ). cell c.first (grants_of 27 xs) c.message) (sym (all_picked 27 c.grants.codes c.grants.full))
     ∙ ap (λ (gs : Grants 27). cell c.first gs c.message) (grants_again c.grants)
 

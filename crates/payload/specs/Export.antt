@@ -17,12 +17,12 @@ abbrev pub check_answer : List ℕ → ℕ
 check_answer b = answer_of (cell_of b)
 
 -- the contents of a sound cell, written again; reading is asked before the buffer's length
-abbrev pub rewrite_of : Result Contents CellFault → List ℕ → ℕ
-rewrite_of (Ok c) out = answer_of (written 48 Length out)
-rewrite_of (Err e) out = cell_refusal e
+abbrev pub rewrite_of : Result Contents CellFault → List ℕ → Result (Unit {0}) CellFault
+rewrite_of (Ok c) out = written 48 Length out
+rewrite_of (Err e) out = Err e
 
 abbrev pub rewrite_answer : (b out : List ℕ) → ℕ
-rewrite_answer b out = rewrite_of (cell_of b) out
+rewrite_answer b out = answer_of (rewrite_of (cell_of b) out)
 
 abbrev pub buffer_of : Result Contents CellFault → List ℕ → List ℕ
 buffer_of (Ok c) out = after 48 (cell_bytes c) out

@@ -4,9 +4,8 @@ use Rattle.std.proofs.Common.{lit≤}
 use Rattle.std.specs.List.{range_with_len}
 use Rattle.field.specs.Bytes.{at}
 use Rattle.field.specs.Check.{check_of}
-use Rattle.field.specs.Delay.{delay_of}
+use Rattle.field.specs.Delay.{Delay, delay_of}
 use Rattle.field.specs.declared.bounded.Bounded.{Bounded}
-use Rattle.field.specs.declared.delay.Delay.{Delay}
 use Rattle.field.specs.declared.number.Number.{Number}
 use Rattle.message.specs.Downstream.{downstream_of, bytes_of}
 use Rattle.message.specs.Kept.{Kept}
@@ -48,7 +47,7 @@ abbrev pub abcd : Number 18446744073709551615
 abcd = record { value = 0x4142434401020304; high = lit≤ tt }
 
 abbrev pub delay15392 : Delay
-delay15392 = record { bits = 15392; bounded = lit≤ tt }
+delay15392 = record { value = 15392; high = lit≤ tt }
 
 -- figures worked by hand
 abbrev pub Figures : Type 0

@@ -1,5 +1,8 @@
 // What this implementation says of the bytes of a vector: the readable text, and the bytes written again.
+use crate::vector::Kind;
+use cell::fault::{CellFault, FrameFault};
 use field::check::check_byte;
+use field::coded::Coded;
 use payload::contents::Contents;
 use payload::contents::read::read_cell;
 use payload::contents::write::write_cell;
@@ -9,6 +12,7 @@ use payload::frame::write::write_frame;
 use readable::hex::push_digits;
 use readable::show;
 use std::alloc::{AllocError, Global};
+use upstream::fault::UpstreamFault;
 use upstream::message::Upstream;
 
 #[derive(Drop)]
@@ -17,90 +21,117 @@ pub struct Answer {
     pub again: String,
 }
 
+// What is read out of a vector's bytes, shown, and written again.
+trait Stored {
+    type Fault;
+
+    fn show(&self, out: &mut String) -> Result<(), AllocError>;
+
+    // Appends the digits of its bytes.
+    fn push(&self, out: &mut String) -> Result<(), AllocError>;
+
+    // Appends why there is none.
+    fn refuse(out: &mut String, fault: Self::Fault) -> Result<(), AllocError>;
+}
+
+impl Stored for Contents {
+    type Fault = CellFault;
+
+    fn show(&self, out: &mut String) -> Result<(), AllocError> {
+        show::cell(out, self.first, &self.grants.places(), &self.message)
+    }
+
+    fn push(&self, out: &mut String) -> Result<(), AllocError> {
+        let mut bytes = [0; 48];
+        write_cell(self, &mut bytes).unwrap();
+        push_digits(out, &bytes)
+    }
+
+    fn refuse(out: &mut String, fault: CellFault) -> Result<(), AllocError> {
+        show::fault::cell(out, fault)
+    }
+}
+
+impl Stored for Frame {
+    type Fault = FrameFault;
+
+    fn show(&self, out: &mut String) -> Result<(), AllocError> {
+        show::frame(out, &self.grants.places(), &self.first, &self.second)
+    }
+
+    fn push(&self, out: &mut String) -> Result<(), AllocError> {
+        let mut bytes = [0; 96];
+        write_frame(self, &mut bytes).unwrap();
+        push_digits(out, &bytes)
+    }
+
+    fn refuse(out: &mut String, fault: FrameFault) -> Result<(), AllocError> {
+        show::fault::frame(out, fault)
+    }
+}
+
+impl Stored for Upstream {
+    type Fault = UpstreamFault;
+
+    fn show(&self, out: &mut String) -> Result<(), AllocError> {
+        show::uplink::message(out, self)
+    }
+
+    fn push(&self, out: &mut String) -> Result<(), AllocError> {
+        push_digits(out, &self.write())
+    }
+
+    fn refuse(out: &mut String, fault: UpstreamFault) -> Result<(), AllocError> {
+        out.push_str("fault 17 ")?;
+        show::uplink::fault(out, fault)
+    }
+}
+
 impl Answer {
-    fn new(heap: Global) -> Answer {
+    fn empty(heap: Global) -> Answer {
         Answer {
             text: String::new(heap),
             again: String::new(heap),
         }
     }
 
-    // A vector with the check byte alone.
-    pub fn check(heap: Global, bytes: &[u8]) -> Result<Answer, AllocError> {
-        let mut answer = Answer::new(heap);
+    // What was read, or the fault and no bytes.
+    fn of<T: Stored + Drop>(heap: Global, read: Result<T, T::Fault>) -> Result<Answer, AllocError> {
+        let mut answer = Answer::empty(heap);
+        match read {
+            Ok(stored) => {
+                stored.show(&mut answer.text)?;
+                stored.push(&mut answer.again)?;
+            }
+            Err(fault) => {
+                T::refuse(&mut answer.text, fault)?;
+                answer.again.push('-')?;
+            }
+        }
+        Ok(answer)
+    }
+
+    // The check byte alone.
+    fn check(heap: Global, bytes: &[u8]) -> Result<Answer, AllocError> {
+        let mut answer = Answer::empty(heap);
         push_digits(&mut answer.text, &[check_byte(bytes)])?;
         Ok(answer)
     }
 
-    pub fn cell(heap: Global, bytes: &[u8]) -> Result<Answer, AllocError> {
-        let mut answer = Answer::new(heap);
-        match read_cell(bytes) {
-            Ok(contents) => show_cell(&mut answer, &contents)?,
-            Err(fault) => {
-                show::fault::cell(&mut answer.text, fault)?;
-                answer.again.push('-')?;
-            }
-        }
-        Ok(answer)
-    }
-
-    pub fn frame(heap: Global, bytes: &[u8]) -> Result<Answer, AllocError> {
-        let mut answer = Answer::new(heap);
-        match read_frame(bytes) {
-            Ok(frame) => show_frame(&mut answer, &frame)?,
-            Err(fault) => {
-                show::fault::frame(&mut answer.text, fault)?;
-                answer.again.push('-')?;
-            }
-        }
-        Ok(answer)
-    }
-
     // A message from an ONU; bytes of another number than twelve have no answer.
-    pub fn upstream(heap: Global, bytes: &[u8]) -> Result<Answer, AllocError> {
-        let mut answer = Answer::new(heap);
-        let Ok(twelve) = <&[u8; 12]>::try_from(bytes) else {
-            return Ok(answer);
-        };
-        match Upstream::read(twelve) {
-            Ok(message) => {
-                show::uplink::message(&mut answer.text, &message)?;
-                push_digits(&mut answer.again, &message.write())?;
-            }
-            Err(fault) => {
-                answer.text.push_str("fault 17 ")?;
-                show::uplink::fault(&mut answer.text, fault)?;
-                answer.again.push('-')?;
-            }
+    fn upstream(heap: Global, bytes: &[u8]) -> Result<Answer, AllocError> {
+        match bytes.try_into() {
+            Ok(twelve) => Answer::of(heap, Upstream::read(twelve)),
+            Err(_) => Ok(Answer::empty(heap)),
         }
-        Ok(answer)
     }
-}
 
-fn show_cell(answer: &mut Answer, contents: &Contents) -> Result<(), AllocError> {
-    show::cell(
-        &mut answer.text,
-        contents.first,
-        &contents.grants.places(),
-        &contents.message,
-    )?;
-    let mut out = [0; 48];
-    match write_cell(contents, &mut out) {
-        Ok(()) => push_digits(&mut answer.again, &out),
-        Err(_) => Ok(()),
-    }
-}
-
-fn show_frame(answer: &mut Answer, frame: &Frame) -> Result<(), AllocError> {
-    show::frame(
-        &mut answer.text,
-        &frame.grants.places(),
-        &frame.first,
-        &frame.second,
-    )?;
-    let mut out = [0; 96];
-    match write_frame(frame, &mut out) {
-        Ok(()) => push_digits(&mut answer.again, &out),
-        Err(_) => Ok(()),
+    pub fn new(heap: Global, kind: Kind, bytes: &[u8]) -> Result<Answer, AllocError> {
+        match kind {
+            Kind::Check => Answer::check(heap, bytes),
+            Kind::Cell => Answer::of(heap, read_cell(bytes)),
+            Kind::Frame => Answer::of(heap, read_frame(bytes)),
+            Kind::Upstream => Answer::upstream(heap, bytes),
+        }
     }
 }

@@ -1,24 +1,24 @@
 // How many vectors there were, and how many were answered otherwise.
 use crate::answer::Answer;
+use crate::vector::{Kind, Vector};
 use readable::hex;
 use readable::hex::NotHex;
 use std::alloc::{AllocError, Global};
 use std::fmt;
+use std::num::Saturating;
 
-#[derive(Clone, Copy)]
+#[derive(Clone, Copy, Default)]
 pub struct Tally {
-    lines: u64,
-    checks: u64,
-    cells: u64,
-    frames: u64,
-    upstream: u64,
-    differ: u64,
+    checks: Saturating<u64>,
+    cells: Saturating<u64>,
+    frames: Saturating<u64>,
+    upstream: Saturating<u64>,
+    differ: Saturating<u64>,
 }
 
 impl fmt::Display for Tally {
     fn fmt<W: fmt::Write>(&self, f: &mut fmt::Formatter<W>) -> fmt::Result {
         let Tally {
-            lines: _,
             checks,
             cells,
             frames,
@@ -33,78 +33,36 @@ impl fmt::Display for Tally {
 }
 
 impl Tally {
-    pub fn new() -> Tally {
-        Tally {
-            lines: 0,
-            checks: 0,
-            cells: 0,
-            frames: 0,
-            upstream: 0,
-            differ: 0,
-        }
-    }
-
-    // What is said of these bytes, by the kind of the vector; none where there is no such kind.
-    fn answer(
-        &mut self,
-        heap: Global,
-        kind: &str,
-        bytes: &[u8],
-    ) -> Result<Option<Answer>, AllocError> {
+    fn count(&mut self, kind: Kind) {
         match kind {
-            "crc" => {
-                self.checks = self.checks.saturating_add(1);
-                Ok(Some(Answer::check(heap, bytes)?))
-            }
-            "cell" => {
-                self.cells = self.cells.saturating_add(1);
-                Ok(Some(Answer::cell(heap, bytes)?))
-            }
-            "frame" => {
-                self.frames = self.frames.saturating_add(1);
-                Ok(Some(Answer::frame(heap, bytes)?))
-            }
-            "up" => {
-                self.upstream = self.upstream.saturating_add(1);
-                Ok(Some(Answer::upstream(heap, bytes)?))
-            }
-            _ => Ok(None),
+            Kind::Check => self.checks += 1,
+            Kind::Cell => self.cells += 1,
+            Kind::Frame => self.frames += 1,
+            Kind::Upstream => self.upstream += 1,
         }
     }
 
     // Whether the answer to a vector's bytes is the one that it has.
-    fn same(
-        &mut self,
-        heap: Global,
-        kind: &str,
-        digits: &str,
-        text: &str,
-        again: &str,
-    ) -> Result<bool, AllocError> {
-        let bytes = match hex::bytes(heap, digits) {
+    fn same(&mut self, heap: Global, vector: Vector<'_>) -> Result<bool, AllocError> {
+        let Some(kind) = vector.kind else {
+            return Ok(false);
+        };
+        let bytes = match hex::bytes(heap, vector.digits) {
             Ok(bytes) => bytes,
             Err(NotHex::Digits) => return Ok(false),
             Err(NotHex::Memory) => return Err(AllocError),
         };
-        match self.answer(heap, kind, bytes.as_slice())? {
-            Some(answer) => Ok(answer.text.as_str() == text && answer.again.as_str() == again),
-            None => Ok(false),
-        }
+        self.count(kind);
+        let answer = Answer::new(heap, kind, bytes.as_slice())?;
+        Ok(answer.text.as_str() == vector.text && answer.again.as_str() == vector.again)
     }
 
-    // Counts a vector; one that is answered otherwise is told.
-    pub fn line(&mut self, heap: Global, line: &str) -> Result<Option<String>, AllocError> {
-        self.lines = self.lines.saturating_add(1);
-        let mut parts = line.split('\t');
-        let kind = parts.next().unwrap_or("");
-        let digits = parts.next().unwrap_or("");
-        let text = parts.next().unwrap_or("");
-        let again = parts.next().unwrap_or("");
-        if self.same(heap, kind, digits, text, again)? {
-            return Ok(None);
+    // Counts a vector, and says whether its bytes are answered as stored.
+    pub fn vector(&mut self, heap: Global, vector: Vector<'_>) -> Result<bool, AllocError> {
+        let same = self.same(heap, vector)?;
+        if !same {
+            self.differ += 1;
         }
-        self.differ = self.differ.saturating_add(1);
-        let number = self.lines;
-        Ok(Some(format!(in heap; "line {number} differs: {line}\n")?))
+        Ok(same)
     }
 }

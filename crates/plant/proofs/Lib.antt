@@ -1,4 +1,4 @@
 pub mod Overlaps
 pub mod Rows
 pub mod Lists
-pub mod Questions
+pub mod Room

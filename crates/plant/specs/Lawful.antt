@@ -1,5 +1,5 @@
 -- What every plant has in common: what its ONUs may do at a cell.
-use Rattle.std.specs.Prelude.{◌≡◌, ℕ, suc, ◌+◌, ◌*◌, ◌<◌, Bool, true, cond, ◌&&◌, List, [], ◌∷◌, ◌++◌, length, Some, None, Option}
+use Rattle.std.specs.Prelude.{◌≡◌, ℕ, suc, ◌+◌, ◌*◌, ◌^◌, ◌<◌, Bool, true, cond, ◌&&◌, List, [], ◌∷◌, ◌++◌, length, Some, None, Option}
 use Rattle.field.specs.Grant.{grant_of}
 use Rattle.field.specs.declared.number.Number.{Number}
 use Rattle.field.specs.declared.octets.Octets.{Octets}
@@ -19,7 +19,7 @@ pub data Move : Type 0 where
   drift : Number 1000000 → Move
 
 abbrev pub drifted : Number 1000000 → Onu → Onu
-drifted t o = record { serial = o.serial; state = o.state; id = o.id; grant = o.grant; ploam = o.ploam; preset = o.preset; register = o.register; trip = t }
+drifted t o = record o { trip = t }
 
 abbrev pub by_move : Move → Onu → Onu
 by_move (own e) o = happened e o
@@ -35,7 +35,7 @@ burst_of k free o n =
     record {
       serial = o.serial;
       slot = n;
-      start = 448 * n + o.trip.value + o.register.bits;
+      start = 448 * n + o.trip.value + o.register.value;
       trip = o.trip;
       kind = k;
       message = said_by free o;
@@ -97,8 +97,12 @@ all_sound (o ∷ os) = sound o && all_sound os
 abbrev pub Does : Type 0 → Type 1
 Does X = X → List ℕ → ℕ → X → List Burst → Type 0
 
+-- the head counts 53 slots in each of 2^48 frames
+abbrev pub slot_limit : ℕ
+slot_limit = 53 * 2 ^ 48
+
 -- the law of every plant: whatever it does of a cell, its ONUs may do
 abbrev pub Lawful : {X : Type 0} → (X → List Onu) → Does X → Type 0
 Lawful {X} means D =
-    (x y : X) (p : List ℕ) (first : ℕ) (new : List Burst) → length p ≡ 48 → first < 14918173765664768 → D x p first y new
+    (x y : X) (p : List ℕ) (first : ℕ) (new : List Burst) → length p ≡ 48 → first < slot_limit → D x p first y new
     → HearsCell p first (means x) (means y) new

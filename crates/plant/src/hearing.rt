@@ -4,14 +4,17 @@ ghost use Rattle.plant.specs.Hearing.{hear_refusal};
 
 use std::fmt;
 
+// So many slots the head counts: 53 in each of 2^48 frames.
+pub const SLOTS: u64 = 53 << 48;
+
 #[derive(Clone, Copy, PartialEq, Eq)]
 pub enum HearFault {
     // not 48 bytes
-    Length,
+    Length = 15,
     // less than 27 free entries in the burst list for each ONU
-    Room,
+    Room = 18,
     // a first slot past the last that the head can count
-    Late,
+    Late = 19,
 }
 
 impl HearFault {
@@ -19,11 +22,7 @@ impl HearFault {
     pub fn number(self) -> u32
         ensures { result ≡ hear_refusal self }
     {
-        match self {
-            HearFault::Length => 15,
-            HearFault::Room => 18,
-            HearFault::Late => 19,
-        }
+        self as u32
     }
 }
 

@@ -13,10 +13,8 @@ pub trait Answers {
 
 // What stands before a comment, without the blanks around it.
 fn content(line: &str) -> &str {
-    match line.split_once('#') {
-        Some((before, _)) => before.trim(),
-        None => line.trim(),
-    }
+    let (before, _comment) = line.split_once('#').unwrap_or((line, ""));
+    before.trim()
 }
 
 // The answer to one line; an empty one, or one with only a comment, gets none.
@@ -36,11 +34,13 @@ fn answer<A: Answers>(
 }
 
 // Answers standard input to its end.
-pub fn run<A: Answers + Drop>(rt: &HostRuntime, mut answers: A) -> io::Result<()> {
+pub fn run<A: Answers + Drop>(
+    rt: &(impl Input + Print + AllocGlobal),
+    mut answers: A,
+) -> io::Result<()> {
     let heap = rt.alloc();
-    let mut number = 0u64;
-    for line in BufReader::new(heap, rt.stdin())?.split(heap, b'\n') {
-        number = number.saturating_add(1);
+    let lines = BufReader::new(heap, rt.reader())?.split(heap, b'\n');
+    for (number, line) in (1u64..).zip(lines) {
         rt.print(answer(heap, &mut answers, number, line?.as_slice())?)?;
     }
     let mut out = String::new(heap);

@@ -4,6 +4,7 @@
 use crate::lines::run;
 use crate::reader::Reader;
 use crate::writer::Writer;
+use std::rt::Env;
 use std::{env, io};
 
 mod lines;
@@ -26,21 +27,22 @@ enum Command {
     Help,
 }
 
-impl Command {
-    fn named(word: &str) -> Command {
+impl From<&str> for Command {
+    fn from(word: &str) -> Command {
         match word {
             "read" => Command::Read,
             "write" => Command::Write,
             _ => Command::Help,
         }
     }
+}
 
+impl Command {
     // The only argument, or help where there is none or more than one.
-    fn given(rt: &HostRuntime) -> io::Result<Command> {
-        let mut args = env::args(rt)?;
-        let _program = args.next();
+    fn given(rt: &(impl Env + Alloc)) -> io::Result<Command> {
+        let mut args = env::args(rt)?.skip(1);
         match (args.next(), args.next()) {
-            (Some(word), None) => Ok(Command::named(word.as_str())),
+            (Some(word), None) => Ok(word.as_str().into()),
             _ => Ok(Command::Help),
         }
     }

@@ -35,7 +35,7 @@ impl Reader {
     fn cell(&mut self, source: Source, bytes: &[u8], out: &mut String) -> Result<(), AllocError> {
         match read_cell(bytes) {
             Ok(contents) => {
-                self.tally.cell(Kind::of(&contents.message));
+                self.tally.cell(Kind::from(&contents.message));
                 show_cell(&contents, out)
             }
             Err(fault) => {
@@ -48,31 +48,13 @@ impl Reader {
     // One cell, or the two of a frame.
     fn bytes(&mut self, line: u64, bytes: &[u8], out: &mut String) -> Result<(), AllocError> {
         if bytes.len() != 96 {
-            return self.cell(Source::Line(line), bytes, out);
+            return self.cell(Source { line, cell: None }, bytes, out);
         }
-        let (first, second) = bytes.split_at(48);
-        self.cell(
-            Source::Half {
-                line,
-                cell: Place::First,
-            },
-            first,
-            out,
-        )?;
-        self.cell(
-            Source::Half {
-                line,
-                cell: Place::Second,
-            },
-            second,
-            out,
-        )
-    }
-
-    fn not_hex(&mut self, line: u64, out: &mut String) -> Result<(), AllocError> {
-        self.tally.not_hex();
-        report::at(Source::Line(line), out)?;
-        out.push_str("not hex\n")
+        let cells = [Some(Place::First), Some(Place::Second)];
+        for (cell, half) in cells.into_iter().zip(bytes.chunks(48)) {
+            self.cell(Source { line, cell }, half, out)?;
+        }
+        Ok(())
     }
 }
 
@@ -80,7 +62,10 @@ impl Answers for Reader {
     fn line(&mut self, number: u64, text: &str, out: &mut String) -> Result<(), AllocError> {
         match hex::bytes(self.heap, text) {
             Ok(bytes) => self.bytes(number, bytes.as_slice(), out),
-            Err(NotHex::Digits) => self.not_hex(number, out),
+            Err(NotHex::Digits) => {
+                self.tally.not_hex();
+                writeln!(out, "line {number}: not hex")
+            }
             Err(NotHex::Memory) => Err(AllocError),
         }
     }

@@ -2,32 +2,30 @@
 use cell::fault::{CellFault, Place};
 use readable::show;
 use std::alloc::AllocError;
+use std::fmt;
 
-// Where a cell stood in the input: alone in its line, or as one of two.
+// Where a cell stood in the input.
 #[derive(Clone, Copy)]
-pub enum Source {
-    Line(u64),
-    Half { line: u64, cell: Place },
+pub struct Source {
+    pub line: u64,
+    // which of the two cells in its line, unless it was alone there
+    pub cell: Option<Place>,
 }
 
-// Appends the place and a colon.
-pub fn at(source: Source, out: &mut String) -> Result<(), AllocError> {
-    match source {
-        Source::Line(line) => write!(out, "line {line}: "),
-        Source::Half {
-            line,
-            cell: Place::First,
-        } => write!(out, "line {line} cell 1: "),
-        Source::Half {
-            line,
-            cell: Place::Second,
-        } => write!(out, "line {line} cell 2: "),
+impl fmt::Display for Source {
+    fn fmt<W: fmt::Write>(&self, f: &mut fmt::Formatter<W>) -> fmt::Result {
+        let line = self.line;
+        match self.cell {
+            None => write!(f, "line {line}"),
+            Some(Place::First) => write!(f, "line {line} cell 1"),
+            Some(Place::Second) => write!(f, "line {line} cell 2"),
+        }
     }
 }
 
 // Appends a line that says where a cell is faulty, by which number, and why.
 pub fn fault(source: Source, fault: CellFault, out: &mut String) -> Result<(), AllocError> {
-    at(source, out)?;
+    write!(out, "{source}: ")?;
     show::fault::cell(out, fault)?;
     out.push('\n')
 }

@@ -2,70 +2,72 @@
 use cell::fault::CellFault;
 use readable::kind::{KINDS, Kind};
 use std::alloc::AllocError;
+use std::num::Saturating;
 
 #[derive(Clone, Copy)]
 pub struct Tally {
-    cells: u64,
-    length_faults: u64,
-    check_faults: u64,
-    message_faults: u64,
-    not_hex: u64,
-    // the messages of each kind, in the order of `KINDS`
-    messages: [u64; 20],
-}
-
-// Appends a line with a name and a count.
-fn counted(out: &mut String, name: &str, count: u64) -> Result<(), AllocError> {
-    writeln!(out, "{name}: {count}")
+    cells: Saturating<u64>,
+    length_faults: Saturating<u64>,
+    check_faults: Saturating<u64>,
+    message_faults: Saturating<u64>,
+    not_hex: Saturating<u64>,
+    // how many messages there were of each kind
+    messages: [(Kind, Saturating<u64>); 20],
 }
 
 impl Tally {
     pub fn new() -> Tally {
         Tally {
-            cells: 0,
-            length_faults: 0,
-            check_faults: 0,
-            message_faults: 0,
-            not_hex: 0,
-            messages: [0; 20],
+            cells: Saturating(0),
+            length_faults: Saturating(0),
+            check_faults: Saturating(0),
+            message_faults: Saturating(0),
+            not_hex: Saturating(0),
+            messages: KINDS.map(|kind| (kind, Saturating(0))),
         }
     }
 
     pub fn cell(&mut self, kind: Kind) {
-        self.cells = self.cells.saturating_add(1);
-        if let Some(count) = self.messages.get_mut(kind as usize) {
-            *count = count.saturating_add(1);
+        self.cells += 1;
+        for (of, count) in &mut self.messages {
+            if *of == kind {
+                *count += 1;
+            }
         }
     }
 
     pub fn fault(&mut self, fault: CellFault) {
         match fault {
-            CellFault::Length => self.length_faults = self.length_faults.saturating_add(1),
-            CellFault::Check(_) => self.check_faults = self.check_faults.saturating_add(1),
-            CellFault::Message(_) => self.message_faults = self.message_faults.saturating_add(1),
+            CellFault::Length => self.length_faults += 1,
+            CellFault::Check(_) => self.check_faults += 1,
+            CellFault::Message(_) => self.message_faults += 1,
         }
     }
 
     pub fn not_hex(&mut self) {
-        self.not_hex = self.not_hex.saturating_add(1);
+        self.not_hex += 1;
     }
 
-    // Appends a line for each kind of message that occurred.
-    fn show_messages(&self, out: &mut String) -> Result<(), AllocError> {
-        for (kind, count) in KINDS.iter().zip(self.messages.iter()) {
-            if *count > 0 {
-                counted(out, kind.name(), *count)?;
+    // Appends a line for each count, and one for each kind of message that occurred.
+    pub fn show(&self, out: &mut String) -> Result<(), AllocError> {
+        let Tally {
+            cells,
+            length_faults,
+            check_faults,
+            message_faults,
+            not_hex,
+            messages,
+        } = self;
+        writeln!(out, "cells read: {cells}")?;
+        writeln!(out, "faults of length: {length_faults}")?;
+        writeln!(out, "faults of a check byte: {check_faults}")?;
+        writeln!(out, "faults of a message: {message_faults}")?;
+        writeln!(out, "lines that are not hex: {not_hex}")?;
+        for (kind, count) in messages {
+            if count.0 > 0 {
+                writeln!(out, "{kind}: {count}")?;
             }
         }
         Ok(())
-    }
-
-    pub fn show(&self, out: &mut String) -> Result<(), AllocError> {
-        counted(out, "cells read", self.cells)?;
-        counted(out, "faults of length", self.length_faults)?;
-        counted(out, "faults of a check byte", self.check_faults)?;
-        counted(out, "faults of a message", self.message_faults)?;
-        counted(out, "lines that are not hex", self.not_hex)?;
-        self.show_messages(out)
     }
 }

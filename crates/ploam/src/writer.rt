@@ -3,14 +3,11 @@ ghost use Rattle.std.specs.Prelude.{◌≡◌};
 ghost use Rattle.payload.specs.Cell.{cell_bytes};
 
 use crate::lines::Answers;
-use crate::report;
-use crate::report::Source;
 use field::grants::Grants;
 use payload::contents::Contents;
 use payload::contents::write::write_cell;
+use readable::hex;
 use readable::line::Cell;
-use readable::wanted::Wanted;
-use readable::{hex, parse};
 use std::alloc::AllocError;
 
 #[derive(Clone, Copy)]
@@ -21,10 +18,8 @@ fn bytes(contents: &Contents) -> [u8; 48]
     ensures { result ≡ cell_bytes contents.now }
 {
     let mut bytes = [0u8; 48];
-    match write_cell(contents, &mut bytes) {
-        Ok(()) => bytes,
-        Err(_) => unreachable(),
-    }
+    write_cell(contents, &mut bytes).unwrap();
+    bytes
 }
 
 // Appends the hex of a cell.
@@ -38,16 +33,11 @@ fn show_hex(cell: &Cell, out: &mut String) -> Result<(), AllocError> {
     out.push('\n')
 }
 
-fn refuse(line: u64, wanted: Wanted, out: &mut String) -> Result<(), AllocError> {
-    report::at(Source::Line(line), out)?;
-    writeln!(out, "{wanted}")
-}
-
 impl Answers for Writer {
     fn line(&mut self, number: u64, text: &str, out: &mut String) -> Result<(), AllocError> {
-        match parse::cell(text) {
+        match text.parse() {
             Ok(cell) => show_hex(&cell, out),
-            Err(wanted) => refuse(number, wanted, out),
+            Err(wanted) => writeln!(out, "line {number}: {wanted}"),
         }
     }
 

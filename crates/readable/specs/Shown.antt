@@ -1,5 +1,5 @@
--- Lines of text: what the fields of a message say, and a line to which they are appended.
-use Rattle.std.specs.Prelude.{ℕ, ◌+◌, ◌/◌, ◌%◌, Bool, cond, List, [], ◌∷◌, ◌++◌, codes, decimal, fold, ◌==◌}
+-- Texts: what the fields of a message say, the message, a cell and a frame.
+use Rattle.std.specs.Prelude.{ℕ, ◌+◌, ◌/◌, ◌%◌, Bool, cond, List, [], ◌∷◌, ◌++◌, codes, decimal, ◌==◌}
 use Rattle.std.specs.Char.{digit_char}
 use Rattle.field.specs.Bytes.{number_bytes}
 use Rattle.field.specs.Grant.{code_of}
@@ -40,9 +40,12 @@ octets k bytes = (k, hexed bytes)
 abbrev pub serial : ℕ → Field
 serial n = octets key.Serial (number_bytes n)
 
+abbrev pub address_text : Address → List ℕ
+address_text (One p) = decimal p.value
+address_text All = codes "all"
+
 abbrev pub address : Address → Field
-address (One p) = number key.PonId p.value
-address All = (key.PonId, codes "all")
+address to = (key.PonId, address_text to)
 
 abbrev pub access : Access → List Field
 access (Deny n) = (key.Access, codes "deny") ∷ serial n.value ∷ []
@@ -58,8 +61,8 @@ abbrev pub fields_of : Downstream → List Field
 fields_of sent.NoMessage = []
 fields_of (sent.UpstreamRxControl part) = rx_part part
 fields_of (sent.UpstreamOverhead guard overhead delay) =
-    number key.Guard guard.value ∷ octets key.Overhead overhead.bytes ∷ number key.Delay delay.bits ∷ []
-fields_of (sent.RangingTime p delay) = number key.PonId p.value ∷ number key.Delay delay.bits ∷ []
+    number key.Guard guard.value ∷ octets key.Overhead overhead.bytes ∷ number key.Delay delay.value ∷ []
+fields_of (sent.RangingTime p delay) = number key.PonId p.value ∷ number key.Delay delay.value ∷ []
 fields_of (sent.SerialNumberMask bits n) = number key.Bits bits.value ∷ serial n.value ∷ []
 fields_of (sent.AssignPonId p n) = number key.PonId p.value ∷ serial n.value ∷ []
 fields_of (sent.DeactivatePonId to) = address to ∷ []
@@ -82,23 +85,24 @@ fields_of (sent.VendorSpecific to kind body) = address to ∷ number key.Kind ki
 fields_of (sent.Pst line k1 k2) = number key.Line line.value ∷ octets key.K1 (k1 ∷ []) ∷ octets key.K2 (k2 ∷ []) ∷ []
 fields_of (sent.BerInterval p frames) = number key.PonId p.value ∷ number key.Frames frames.value ∷ []
 
--- a line with a blank, a key and its sign
-abbrev pub keyed : List ℕ → Key → List ℕ
-keyed line k = ((line ++ codes " ") ++ key_name k) ++ codes "="
+-- what stands before a value: a blank, the key and its sign
+abbrev pub key_text : Key → List ℕ
+key_text k = codes " " ++ (key_name k ++ codes "=")
 
--- a line with some fields
-abbrev pub with_fields : List ℕ → List Field → List ℕ
-with_fields line fields = fold (λ before f. keyed before f.0 ++ f.1) line fields
+-- fields one after another
+abbrev pub fields_text : List Field → List ℕ
+fields_text [] = []
+fields_text (f ∷ fields) = (key_text f.0 ++ f.1) ++ fields_text fields
 
--- a line with a message
-abbrev pub with_message : List ℕ → Downstream → List ℕ
-with_message line message = with_fields ((line ++ codes "message=") ++ kind_name (kind_of message)) (fields_of message)
+-- the name of a message and its fields
+abbrev pub message_text : Downstream → List ℕ
+message_text message = codes "message=" ++ (kind_name (kind_of message) ++ fields_text (fields_of message))
 
--- a line with the reason why there is no message
-abbrev pub with_fault : List ℕ → MessageFault → List ℕ
-with_fault line (UnknownIdentifier n) = (line ++ codes "identifier=") ++ decimal n
-with_fault line (WrongAddress n) = (line ++ codes "address=") ++ decimal n
-with_fault line (OutOfRange field) = (line ++ codes "field=") ++ key_name (key_of field)
+-- why there is no message
+abbrev pub fault_text : MessageFault → List ℕ
+fault_text (UnknownIdentifier n) = codes "identifier=" ++ decimal n
+fault_text (WrongAddress n) = codes "address=" ++ decimal n
+fault_text (OutOfRange field) = codes "field=" ++ key_name (key_of field)
 
 abbrev pub grant_name : Grant → List ℕ
 grant_name (Code c) = decimal c.value
@@ -106,26 +110,44 @@ grant_name Ranging = codes "ranging"
 grant_name Unassigned = codes "unassigned"
 grant_name Idle = codes "idle"
 
--- a line with n times the same grant
-abbrev pub with_run : List ℕ → Grant → ℕ → List ℕ
-with_run line g n = cond (n == 1) (line ++ grant_name g) (((line ++ grant_name g) ++ codes "*") ++ decimal n)
+-- n times the same grant
+abbrev pub run_text : Grant → ℕ → List ℕ
+run_text g n = cond (n == 1) (grant_name g) (grant_name g ++ (codes "*" ++ decimal n))
 
--- a line with n times a grant and the grants after those, equal neighbours joined
-unfoldable pub with_runs : List ℕ → Grant → ℕ → List Grant → List ℕ
-with_runs line g n [] = with_run line g n
-with_runs line g n (h ∷ rest) =
-    cond (code_of h == code_of g) (with_runs line g (n + 1) rest) (with_runs (with_run line g n ++ codes ",") h 1 rest)
+-- n times a grant and the grants after those, equal neighbours joined
+unfoldable pub runs_text : Grant → ℕ → List Grant → List ℕ
+runs_text g n [] = run_text g n
+runs_text g n (h ∷ rest) =
+    cond (code_of h == code_of g) (runs_text g (n + 1) rest) (run_text g n ++ (codes "," ++ runs_text h 1 rest))
+
+abbrev pub grants_text : List Grant → List ℕ
+grants_text [] = []
+grants_text (g ∷ rest) = runs_text g 1 rest
+
+-- the marks of a cell: whether it is the first, and its grants
+abbrev pub marks : Bool → List Grant → List Field
+marks first grants = flag key.Bit first ∷ (key.Grants, grants_text grants) ∷ []
+
+abbrev pub cell_text : Bool → List Grant → Downstream → List ℕ
+cell_text first grants message = codes "cell" ++ (fields_text (marks first grants) ++ (codes " " ++ message_text message))
+
+-- a frame: its grants and the messages of both cells
+abbrev pub frame_text : List Grant → (first second : Downstream) → List ℕ
+frame_text grants first second =
+    codes "frame" ++ (fields_text ((key.Grants, grants_text grants) ∷ []) ++ (codes " " ++ (message_text first ++ (codes " ; " ++ message_text second))))
+
+-- a line with each of these appended
+abbrev pub with_message : List ℕ → Downstream → List ℕ
+with_message line message = line ++ message_text message
+
+abbrev pub with_fault : List ℕ → MessageFault → List ℕ
+with_fault line fault = line ++ fault_text fault
 
 abbrev pub with_grants : List ℕ → List Grant → List ℕ
-with_grants line [] = line
-with_grants line (g ∷ rest) = with_runs line g 1 rest
+with_grants line grants = line ++ grants_text grants
 
--- a line with a cell
 abbrev pub with_cell : List ℕ → Bool → List Grant → Downstream → List ℕ
-with_cell line first grants message =
-    with_message (with_grants (keyed (with_fields (line ++ codes "cell") (flag key.Bit first ∷ [])) key.Grants) grants ++ codes " ") message
+with_cell line first grants message = line ++ cell_text first grants message
 
--- a line with a frame: its grants and the messages of both cells
 abbrev pub with_frame : List ℕ → List Grant → (first second : Downstream) → List ℕ
-with_frame line grants first second =
-    with_message (with_message (with_grants (keyed (line ++ codes "frame") key.Grants) grants ++ codes " ") first ++ codes " ; ") second
+with_frame line grants first second = line ++ frame_text grants first second

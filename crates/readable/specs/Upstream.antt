@@ -10,7 +10,7 @@ use Rattle.upstream.specs.declared.fault.UpstreamField.TheVariants.{ZeroByte, Se
 use Rattle.readable.specs.declared.key.Key.{Key}
 use Rattle.readable.specs.declared.key.Key.TheVariants as key
 use Rattle.readable.specs.Names.{key_name}
-use Rattle.readable.specs.Shown.{Field, number, octets, serial, with_fields}
+use Rattle.readable.specs.Shown.{Field, number, octets, serial, fields_text}
 
 abbrev pub upstream_name : Upstream → List ℕ
 upstream_name (sent.NoMessage s) = codes "No_message"
@@ -30,9 +30,12 @@ abbrev pub source : Bounded 0 63 → Field
 source s = number key.Source s.value
 
 -- an ONU without a PON_ID is 64
+abbrev pub source_number : Option (Bounded 0 63) → ℕ
+source_number (Some s) = s.value
+source_number None = 64
+
 abbrev pub any_source : Option (Bounded 0 63) → Field
-any_source (Some s) = source s
-any_source None = number key.Source 64
+any_source s = number key.Source (source_number s)
 
 -- the source and the fields, in their order
 abbrev pub upstream_fields : Upstream → List Field
@@ -52,9 +55,9 @@ upstream_fields (sent.Pst s line k1 k2) =
     source s ∷ number key.Line line.value ∷ octets key.K1 (k1 ∷ []) ∷ octets key.K2 (k2 ∷ []) ∷ []
 upstream_fields (sent.MessageError s m) = source s ∷ number key.Message m ∷ []
 
--- a line with a message
-abbrev pub with_upstream : List ℕ → Upstream → List ℕ
-with_upstream line message = with_fields ((line ++ codes "message=") ++ upstream_name message) (upstream_fields message)
+-- the name of a message and its fields
+abbrev pub upstream_text : Upstream → List ℕ
+upstream_text message = codes "message=" ++ (upstream_name message ++ fields_text (upstream_fields message))
 
 -- the key of a field that can be out of range
 abbrev pub upstream_key : UpstreamField → Key
@@ -62,8 +65,15 @@ upstream_key ZeroByte = key.Zero
 upstream_key SequenceBits = key.Sequence
 upstream_key Line = key.Line
 
--- a line with the reason why there is no message
+-- why there is no message
+abbrev pub upstream_fault_text : UpstreamFault → List ℕ
+upstream_fault_text (UnknownIdentifier n) = codes "identifier=" ++ decimal n
+upstream_fault_text (WrongSource n) = codes "source=" ++ decimal n
+upstream_fault_text (OutOfRange field) = codes "field=" ++ key_name (upstream_key field)
+
+-- a line with each of these appended
+abbrev pub with_upstream : List ℕ → Upstream → List ℕ
+with_upstream line message = line ++ upstream_text message
+
 abbrev pub with_upstream_fault : List ℕ → UpstreamFault → List ℕ
-with_upstream_fault line (UnknownIdentifier n) = (line ++ codes "identifier=") ++ decimal n
-with_upstream_fault line (WrongSource n) = (line ++ codes "source=") ++ decimal n
-with_upstream_fault line (OutOfRange field) = (line ++ codes "field=") ++ key_name (upstream_key field)
+with_upstream_fault line fault = line ++ upstream_fault_text fault

@@ -1,40 +1,67 @@
 // Bytes as hex digits, two for each byte, and back.
-ghost use Rattle.std.specs.Prelude.{◌≡◌, ◌/◌, ◌%◌, ◌<◌, [], ◌∷◌, ◌++◌, IfSome, string_bytes, OnOk};
-ghost use Rattle.std.specs.Char.{digit_char};
+ghost use Rattle.std.specs.Prelude.{◌≡◌, ◌<◌, ◌++◌, Some, IfSome, string_bytes, OnOk};
 ghost use Rattle.readable.specs.Shown.{hexed};
+ghost use Rattle.readable.specs.declared.hex.NotHex.TheVariants.{Memory};
 
 use std::alloc::{AllocError, AllocFailed, Global};
+use std::error::Error;
+use std::fmt;
 
 // Why a line is no run of bytes.
-#[derive(Clone, Copy)]
+#[derive(Clone, Copy, Debug, PartialEq, Eq)]
 pub enum NotHex {
     // something other than two hex digits stands where a byte should
     Digits,
     Memory,
 }
 
+impl fmt::Display for NotHex {
+    fn fmt<W: fmt::Write>(&self, f: &mut fmt::Formatter<W>) -> fmt::Result {
+        match self {
+            NotHex::Digits => f.write_str("not hex"),
+            NotHex::Memory => f.write_str("out of memory"),
+        }
+    }
+}
+
+impl Error for NotHex {}
+
 impl From<AllocError> for NotHex {
+    ghost from_gives = { λ _ e. e ≡ Memory };
+
     fn from(_e: AllocError) -> NotHex {
         NotHex::Memory
     }
 }
 
 impl<T: Drop> From<AllocFailed<T>> for NotHex {
+    ghost from_gives = { λ _ e. e ≡ Memory };
+
     fn from(_e: AllocFailed<T>) -> NotHex {
         NotHex::Memory
     }
 }
 
-// The lowercase digit of a number below sixteen.
-fn digit(value: u8) -> char
-    requires { value < 16 }
-    ensures value { result ≡ digit_char value }
-    ensures ascii { result < 128 }
-{
-    match value {
-        0..=9 => (b'0' + value) as char,
-        _ => (b'a' + (value - 10)) as char,
+// Bytes that print as two lowercase digits each.
+#[derive(Clone, Copy)]
+pub struct Digits<'a>(pub &'a [u8]);
+
+impl fmt::Display for Digits<'_> {
+    ghost output = { λ digits. Some (hexed digits.0.now) };
+
+    fn fmt<W: fmt::Write>(&self, f: &mut fmt::Formatter<W>) -> fmt::Result {
+        for &byte in self.0 {
+            write!(f, "{byte:02x}")?;
+        }
+        Ok(())
     }
+}
+
+// Appends two digits for each byte.
+pub fn push_digits(out: &mut String, bytes: &[u8]) -> Result<(), AllocError>
+    ensures { OnOk result (string_bytes out.new ≡ string_bytes out.old ++ hexed bytes.now) }
+{
+    write!(out, "{}", Digits(bytes))
 }
 
 // What a lowercase digit counts.
@@ -55,49 +82,29 @@ fn byte(high: u8, low: u8) -> Option<u8> {
     Some(high * 16 + low)
 }
 
-fn push_byte(out: &mut String, byte: u8) -> Result<(), AllocError>
-    ensures { OnOk result (string_bytes out.new ≡ (string_bytes out.old ++ digit_char (byte / 16) ∷ []) ++ digit_char (byte % 16) ∷ []) }
-{
-    out.push(digit(byte / 16))?;
-    out.push(digit(byte % 16))
-}
-
-// Appends two digits for each byte.
-pub fn push_digits(out: &mut String, bytes: &[u8]) -> Result<(), AllocError>
-    ensures { OnOk result (string_bytes out.new ≡ string_bytes out.old ++ hexed bytes.now) }
-{
-    for byte in bytes {
-        push_byte(out, *byte)?;
+// A text two bytes at a time, if none is left over.
+fn digit_pairs(text: &str) -> Option<&[[u8; 2]]> {
+    match text.as_bytes().as_chunks() {
+        (pairs, []) => Some(pairs),
+        _ => None,
     }
-    Ok(())
 }
 
 // Exactly N bytes in lowercase digits, or none.
 pub(crate) fn octets<const N: usize>(text: &str) -> Option<[u8; N]> {
-    let digits = text.as_bytes();
-    if digits.len() % 2 != 0 || digits.len() / 2 != N {
-        return None;
-    }
+    let pairs = digit_pairs(text).filter(|pairs| pairs.len() == N)?;
     let mut bytes = [0u8; N];
-    for (at, pair) in digits.chunks(2).enumerate() {
-        let [high, low] = pair else {
-            return None;
-        };
-        *bytes.get_mut(at)? = byte(*high, *low)?;
+    for (place, [high, low]) in bytes.iter_mut().zip(pairs) {
+        *place = byte(*high, *low)?;
     }
     Some(bytes)
 }
 
 // Appends the bytes of one word of digits.
 fn push_word(bytes: &mut Vec<u8>, word: &str) -> Result<(), NotHex> {
-    for pair in word.as_bytes().chunks(2) {
-        let [high, low] = pair else {
-            return Err(NotHex::Digits);
-        };
-        let Some(byte) = byte(high.to_ascii_lowercase(), low.to_ascii_lowercase()) else {
-            return Err(NotHex::Digits);
-        };
-        bytes.push(byte)?;
+    for [high, low] in digit_pairs(word).ok_or(NotHex::Digits)? {
+        let byte = byte(high.to_ascii_lowercase(), low.to_ascii_lowercase());
+        bytes.push(byte.ok_or(NotHex::Digits)?)?;
     }
     Ok(())
 }

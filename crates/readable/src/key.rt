@@ -1,8 +1,13 @@
 // The keys that stand before the fields of a line, as in `delay=12345`.
-ghost use Rattle.std.specs.Prelude.{◌≡◌};
-ghost use Rattle.readable.specs.Names.{key_name};
+ghost use Rattle.std.specs.Prelude.{◌≡◌, Some};
+ghost use Rattle.readable.specs.Names.{key_name, key_of};
+ghost use Rattle.readable.specs.Upstream.{upstream_key};
 
-#[derive(Clone, Copy)]
+use message::fault::Field;
+use std::fmt;
+use upstream::fault::UpstreamField;
+
+#[derive(Clone, Copy, Debug, PartialEq, Eq)]
 pub enum Key {
     Bit,
     Grants,
@@ -89,6 +94,54 @@ impl Key {
             Key::Errors => "errors",
             Key::Sequence => "sequence",
             Key::Zero => "zero",
+        }
+    }
+}
+
+impl fmt::Display for Key {
+    ghost output = { λ key. Some (key_name key) };
+
+    fn fmt<W: fmt::Write>(&self, f: &mut fmt::Formatter<W>) -> fmt::Result {
+        f.write_str(self.name())
+    }
+}
+
+// The key of a field of a message to an ONU that can be out of range.
+impl From<Field> for Key {
+    ghost from_gives = { λ field key. key ≡ key_of field };
+
+    fn from(field: Field) -> Key {
+        match field {
+            Field::Part => Key::Part,
+            Field::GuardBits => Key::Guard,
+            Field::DelayBits => Key::Delay,
+            Field::MaskBits => Key::Bits,
+            Field::AssignedId => Key::PonId,
+            Field::AccessCode => Key::Access,
+            Field::UpdateCount => Key::Count,
+            Field::DataCode => Key::Data,
+            Field::DataFlag => Key::DataActive,
+            Field::PloamCode => Key::Ploam,
+            Field::PloamFlag => Key::PloamActive,
+            Field::ActiveFlag => Key::Active,
+            Field::SlotCode => Key::Code,
+            Field::SlotOffset => Key::Offset,
+            Field::SlotLength => Key::Length,
+            Field::VpiBits => Key::Vpi,
+            Field::Line => Key::Line,
+        }
+    }
+}
+
+// The key of a field of a message from an ONU that can be out of range.
+impl From<UpstreamField> for Key {
+    ghost from_gives = { λ field key. key ≡ upstream_key field };
+
+    fn from(field: UpstreamField) -> Key {
+        match field {
+            UpstreamField::ZeroByte => Key::Zero,
+            UpstreamField::SequenceBits => Key::Sequence,
+            UpstreamField::Line => Key::Line,
         }
     }
 }

@@ -1,10 +1,11 @@
 // The twenty kinds of message by name.
-ghost use Rattle.std.specs.Prelude.{◌≡◌, MatchOption, ◌≢◌};
+ghost use Rattle.std.specs.Prelude.{◌≡◌, MatchOption, Some, ◌≢◌};
 ghost use Rattle.readable.specs.Names.{kind_name, kind_of};
 
 use message::downstream::Downstream;
+use std::fmt;
 
-#[derive(Clone, Copy)]
+#[derive(Clone, Copy, Debug, PartialEq, Eq, PartialOrd, Ord)]
 pub enum Kind {
     NoMessage,
     UpstreamRxControl,
@@ -83,17 +84,22 @@ impl Kind {
     pub fn named(name: &str) -> Option<Kind>
         ensures { MatchOption result ((k : Kind) → kind_name k ≢ name.now) (λ k. kind_name k ≡ name.now) }
     {
-        for kind in &KINDS {
-            if kind.name() == name {
-                return Some(*kind);
-            }
-        }
-        None
+        KINDS.iter().copied().find(|kind| kind.name() == name)
     }
+}
 
-    pub fn of(message: &Downstream) -> Kind
-        ensures { result ≡ kind_of message.now }
-    {
+impl fmt::Display for Kind {
+    ghost output = { λ kind. Some (kind_name kind) };
+
+    fn fmt<W: fmt::Write>(&self, f: &mut fmt::Formatter<W>) -> fmt::Result {
+        f.write_str(self.name())
+    }
+}
+
+impl From<&Downstream> for Kind {
+    ghost from_gives = { λ message kind. kind ≡ kind_of message.now };
+
+    fn from(message: &Downstream) -> Kind {
         match message {
             Downstream::NoMessage => Kind::NoMessage,
             Downstream::UpstreamRxControl { .. } => Kind::UpstreamRxControl,

@@ -5,7 +5,7 @@ pub mod hex;
 pub mod key;
 pub mod kind;
 pub mod line;
-pub mod parse;
+mod parse;
 mod run;
 pub mod show;
 pub mod wanted;

@@ -1,48 +1,57 @@
 // A line of text read as a cell. What is read is what `show` prints, with any blanks between the words.
 use crate::key::Key;
-use crate::kind::Kind;
 use crate::line::Cell;
-use crate::parse::downstream::fields;
-use crate::parse::row::Row;
-use crate::parse::value::{flag, text};
+use crate::parse::words::Words;
 use crate::run::Run;
 use crate::wanted::Wanted;
 use field::grant::Grant;
-use message::downstream::Downstream;
-use std::str::SplitWhitespace;
+use std::str::FromStr;
 
 mod downstream;
-mod row;
 pub(crate) mod value;
+mod words;
 
+// A list of runs, each of another grant than the one before it.
 fn grants(list: &str) -> Result<[Grant; 27], Wanted> {
-    let mut row = Row::new();
+    let mut grants = [Grant::Idle; 27];
+    let mut left = grants.as_mut_slice();
+    let mut last = None;
     for run in list.split(',') {
-        row.add(Run::read(run)?)?;
+        let Run { grant, count } = Run::read(run)?;
+        if last == Some(grant) {
+            return Err(Wanted::JoinedRun);
+        }
+        let (filled, rest) = left.split_at_mut_checked(count).ok_or(Wanted::AllGrants)?;
+        filled.fill(grant);
+        left = rest;
+        last = Some(grant);
     }
-    row.full()
+    if left.is_empty() {
+        Ok(grants)
+    } else {
+        Err(Wanted::AllGrants)
+    }
 }
 
-fn message(words: &mut SplitWhitespace<'_>) -> Result<Downstream, Wanted> {
-    let name = text(words, Key::Message).ok_or(Wanted::MessageName)?;
-    let kind = Kind::named(name).ok_or(Wanted::MessageName)?;
-    fields(words, kind)
-}
+impl FromStr for Cell {
+    type Err = Wanted;
 
-pub fn cell(line: &str) -> Result<Cell, Wanted> {
-    let mut words = line.split_whitespace();
-    if words.next() != Some("cell") {
-        return Err(Wanted::Cell);
-    }
-    let first = flag(&mut words, Key::Bit)?;
-    let grants = grants(text(&mut words, Key::Grants).ok_or(Wanted::GrantList)?)?;
-    let message = message(&mut words)?;
-    match words.next() {
-        None => Ok(Cell {
-            first,
-            grants,
-            message,
-        }),
-        Some(_) => Err(Wanted::LineEnd),
+    fn from_str(line: &str) -> Result<Cell, Wanted> {
+        let mut words = Words::new(line);
+        if words.next() != Some("cell") {
+            return Err(Wanted::Cell);
+        }
+        let first = words.field(Key::Bit)?;
+        let grants = grants(words.text(Key::Grants).ok_or(Wanted::GrantList)?)?;
+        let kind = words.field(Key::Message)?;
+        let message = words.message(kind)?;
+        match words.next() {
+            None => Ok(Cell {
+                first,
+                grants,
+                message,
+            }),
+            Some(_) => Err(Wanted::LineEnd),
+        }
     }
 }

@@ -1,13 +1,13 @@
 // Equal grants that follow one another: `5*3`, or `idle` for a single one.
-ghost use Rattle.std.specs.Prelude.{◌≡◌, ◌+◌, ◌^◌, ◌<◌, ◌≤◌, List, ◌∷◌, ◌++◌, IfOk, string_bytes, OnOk};
-ghost use Rattle.readable.specs.Shown.{grant_name, with_run, with_runs};
+ghost use Rattle.std.specs.Prelude.{◌≤◌, Some, IfOk};
+ghost use Rattle.readable.specs.Shown.{grant_name, run_text, grants_text};
 
 use crate::parse::value::{decimal as decimal_of, small};
-use crate::show::value::decimal;
+use crate::show::value::Shown;
 use crate::wanted::Wanted;
 use field::bounded::GrantCode;
 use field::grant::Grant;
-use std::alloc::AllocError;
+use std::fmt;
 
 #[derive(Clone, Copy)]
 pub(crate) struct Run {
@@ -38,47 +38,7 @@ fn length(text: &str) -> Result<usize, Wanted>
     }
 }
 
-fn show_grant(out: &mut String, grant: Grant) -> Result<(), AllocError>
-    ensures { OnOk result (string_bytes out.new ≡ string_bytes out.old ++ grant_name grant) }
-{
-    match grant {
-        Grant::Code(code) => decimal(out, u64::from(code.value())),
-        Grant::Ranging => out.push_str("ranging"),
-        Grant::Unassigned => out.push_str("unassigned"),
-        Grant::Idle => out.push_str("idle"),
-    }
-}
-
 impl Run {
-    // Appends the grant, and how often it stands there if that is more than once.
-    pub(crate) fn show(self, out: &mut String) -> Result<(), AllocError>
-        ensures { OnOk result (string_bytes out.new ≡ with_run (string_bytes out.old) self.grant self.count) }
-    {
-        show_grant(out, self.grant)?;
-        if self.count == 1 {
-            return Ok(());
-        }
-        out.push_str("*")?;
-        decimal(out, self.count as u64)
-    }
-
-    // One grant more: a longer run, or this one shown and another begun.
-    pub(crate) fn then(self, out: &mut String, grant: Grant) -> Result<Run, AllocError>
-        requires { self.count < 2 ^ 63 }
-        ensures length { IfOk result (λ next. next.count ≤ self.count + 1) }
-        ensures line { IfOk result (λ next. (rest : List Grant) → with_runs (string_bytes out.new) next.grant next.count rest ≡ with_runs (string_bytes out.old) self.grant self.count (grant ∷ rest)) }
-    {
-        if grant.byte() == self.grant.byte() {
-            return Ok(Run {
-                grant: self.grant,
-                count: self.count + 1,
-            });
-        }
-        self.show(out)?;
-        out.push_str(",")?;
-        Ok(Run { grant, count: 1 })
-    }
-
     pub(crate) fn read(text: &str) -> Result<Run, Wanted> {
         match text.split_once('*') {
             None => Ok(Run {
@@ -90,5 +50,58 @@ impl Run {
                 count: length(count)?,
             }),
         }
+    }
+}
+
+impl fmt::Display for Shown<Grant> {
+    ghost output = { λ grant. Some (grant_name grant.0) };
+
+    fn fmt<W: fmt::Write>(&self, f: &mut fmt::Formatter<W>) -> fmt::Result {
+        match self.0 {
+            Grant::Code(code) => write!(f, "{}", code.value()),
+            Grant::Ranging => f.write_str("ranging"),
+            Grant::Unassigned => f.write_str("unassigned"),
+            Grant::Idle => f.write_str("idle"),
+        }
+    }
+}
+
+// The grant, and how often it stands there if that is more than once.
+impl fmt::Display for Run {
+    ghost output = { λ run. Some (run_text run.grant run.count) };
+
+    fn fmt<W: fmt::Write>(&self, f: &mut fmt::Formatter<W>) -> fmt::Result {
+        let grant = Shown(self.grant);
+        match self.count {
+            1 => write!(f, "{grant}"),
+            count => write!(f, "{grant}*{count}"),
+        }
+    }
+}
+
+// Each run of equal grants once: `5*3,69,idle*2`.
+impl fmt::Display for Shown<&[Grant]> {
+    ghost output = { λ grants. Some (grants_text grants.0.now) };
+
+    fn fmt<W: fmt::Write>(&self, f: &mut fmt::Formatter<W>) -> fmt::Result {
+        let Some((first, rest)) = self.0.split_first() else {
+            return Ok(());
+        };
+        let mut run = Run {
+            grant: *first,
+            count: 1,
+        };
+        for grant in rest {
+            if *grant == run.grant {
+                run.count += 1;
+            } else {
+                write!(f, "{run},")?;
+                run = Run {
+                    grant: *grant,
+                    count: 1,
+                };
+            }
+        }
+        write!(f, "{run}")
     }
 }

@@ -1,8 +1,9 @@
 // What a line should have had where reading it stopped.
 use crate::key::Key;
+use std::error::Error;
 use std::fmt;
 
-#[derive(Clone, Copy)]
+#[derive(Clone, Copy, Debug, PartialEq, Eq)]
 pub enum Wanted {
     // the word with which each line begins
     Cell,
@@ -36,18 +37,9 @@ impl fmt::Display for Wanted {
     fn fmt<W: fmt::Write>(&self, f: &mut fmt::Formatter<W>) -> fmt::Result {
         match *self {
             Wanted::Cell => f.write_str("expected cell"),
-            Wanted::Flag(key) => {
-                let key = key.name();
-                write!(f, "expected {key}=0 or {key}=1")
-            }
-            Wanted::Number { key, low, high } => {
-                let key = key.name();
-                write!(f, "expected {key}={low}..{high}")
-            }
-            Wanted::Digits { key, count } => {
-                let key = key.name();
-                write!(f, "expected {key}={count} hex digits")
-            }
+            Wanted::Flag(key) => write!(f, "expected {key}=0 or {key}=1"),
+            Wanted::Number { key, low, high } => write!(f, "expected {key}={low}..{high}"),
+            Wanted::Digits { key, count } => write!(f, "expected {key}={count} hex digits"),
             Wanted::Address => f.write_str("expected pon_id=0..63 or pon_id=all"),
             Wanted::Access => f.write_str("expected access=deny, access=allow or access=allow_all"),
             Wanted::GrantList => f.write_str("expected grants=.."),
@@ -62,3 +54,5 @@ impl fmt::Display for Wanted {
         }
     }
 }
+
+impl Error for Wanted {}

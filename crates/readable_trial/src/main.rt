@@ -3,62 +3,55 @@
 // one that begins with `upstream` has the twelve bytes of a message from an ONU.
 #![tactic(auto)]
 
+use field::coded::Coded;
 use readable::hex::NotHex;
 use readable::line::Cell;
-use readable::{hex, parse, show};
+use readable::{hex, show};
 use std::alloc::{AllocError, Global};
 use std::io;
 use std::io::{BufRead, BufReader};
 use upstream::message::Upstream;
 
-fn cell_again(heap: Global, cell: &Cell) -> Result<String, AllocError> {
+fn cell_again(heap: Global, line: &str) -> Result<String, AllocError> {
     let mut out = String::new(heap);
-    show::cell(&mut out, cell.first, &cell.grants, &cell.message)?;
+    match line.parse::<Cell>() {
+        Ok(cell) => show::cell(&mut out, cell.first, &cell.grants, &cell.message)?,
+        Err(wanted) => write!(out, "{wanted}")?,
+    }
     Ok(out)
 }
 
-fn hex_again(heap: Global, digits: &str) -> Result<String, AllocError> {
+// Appends the message in the first twelve bytes, or why there is none.
+fn push_upstream(out: &mut String, bytes: &[u8]) -> Result<(), AllocError> {
+    let Some(twelve) = bytes.first_chunk() else {
+        return out.push_str("too short");
+    };
+    match Upstream::read(twelve) {
+        Ok(message) => show::uplink::message(out, &message),
+        Err(fault) => show::uplink::fault(out, fault),
+    }
+}
+
+// What is said of the bytes of a line of digits.
+fn bytes_again<F>(heap: Global, digits: &str, say: F) -> Result<String, AllocError>
+where
+    F: FnOnce(&mut String, &[u8]) -> Result<(), AllocError> + Drop,
+    requires { F.IsAlwaysCallable say }
+{
     let mut out = String::new(heap);
     match hex::bytes(heap, digits) {
-        Ok(bytes) => hex::push_digits(&mut out, bytes.as_slice())?,
+        Ok(bytes) => say(&mut out, bytes.as_slice())?,
         Err(NotHex::Digits) => out.push_str("not hex")?,
         Err(NotHex::Memory) => return Err(AllocError),
     }
     Ok(out)
 }
 
-// The message in the first twelve bytes, or why there is none.
-fn upstream_line(heap: Global, bytes: &[u8]) -> Result<String, AllocError> {
-    let mut out = String::new(heap);
-    let Some(twelve) = bytes.first_chunk::<12>() else {
-        out.push_str("too short")?;
-        return Ok(out);
-    };
-    match Upstream::read(twelve) {
-        Ok(message) => show::uplink::message(&mut out, &message)?,
-        Err(fault) => show::uplink::fault(&mut out, fault)?,
-    }
-    Ok(out)
-}
-
-fn upstream_again(heap: Global, digits: &str) -> Result<String, AllocError> {
-    match hex::bytes(heap, digits) {
-        Ok(bytes) => upstream_line(heap, bytes.as_slice()),
-        Err(NotHex::Digits) => String::from_str(heap, "not hex"),
-        Err(NotHex::Memory) => Err(AllocError),
-    }
-}
-
 fn answer(heap: Global, line: &str) -> Result<String, AllocError> {
-    if let Some(digits) = line.strip_prefix("hex ") {
-        return hex_again(heap, digits);
-    }
-    if let Some(digits) = line.strip_prefix("upstream ") {
-        return upstream_again(heap, digits);
-    }
-    match parse::cell(line) {
-        Ok(cell) => cell_again(heap, &cell),
-        Err(wanted) => wanted.to_string(heap),
+    match line.split_once(' ') {
+        Some(("hex", digits)) => bytes_again(heap, digits, hex::push_digits),
+        Some(("upstream", digits)) => bytes_again(heap, digits, push_upstream),
+        _ => cell_again(heap, line),
     }
 }
 

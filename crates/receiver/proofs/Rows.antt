@@ -1,5 +1,5 @@
 -- A report grows by one record a slot.
-use Rattle.std.proofs.Common.{◌≡◌, ℕ, ◌+◌, ◌*◌, ◌<◌, List, [], ◌++◌, length, get_or, take, sym, refl, ap, ◌∙◌, add-one, arith}
+use Rattle.std.proofs.Common.{◌≡◌, ℕ, ◌+◌, ◌*◌, ◌<◌, List, [], ◌++◌, length, get_or, take, refl, add-one, arith}
 use borrow.Rule.Slice.PartMut.{put_mid}
 use Rattle.std.proofs.lemmas.Slice.{take-put_mid}
 use Rattle.plant.specs.declared.burst.Burst.{Burst}
@@ -18,7 +18,4 @@ pub one_more : (frame : ℕ) (bs : List Burst) (marks : List ℕ) (x k : ℕ) (o
     → take (18 * x) old ≡ reported frame bs marks x → new ≡ record_bytes (slot_record frame x bs (get_or marks x 0))
     → take (18 * (x + 1)) (put_mid (18 * x) k old new) ≡ reported frame bs marks (x + 1)
 one_more frame bs marks x k old new l h m e d =
-    take-put_mid (18 * x) k old new (18 * (x + 1)) (omega arith) (omega arith)
-    ∙ ap (λ (zs : List ℕ). zs ++ new) e
-    ∙ ap (λ (zs : List ℕ). reported frame bs marks x ++ zs) d
-    ∙ sym (reported_more frame bs marks x)
+    rw (take-put_mid (18 * x) k old new (18 * (x + 1)) (omega arith) (omega arith), e, d, reported_more)

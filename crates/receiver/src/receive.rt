@@ -1,8 +1,6 @@
 // A frame's report from its number, the bursts and the slots that are missed.
-ghost use Rattle.std.specs.Prelude.{◌≡◌, ◌+◌, ◌*◌, ◌<◌, ◌&&◌, length, if◌then◌else◌, Ok, Err, fold, ◌==◌, nat_eq};
-ghost use Rattle.report.specs.Record.{record_bytes};
-ghost use Rattle.receiver.specs.declared.receive.Found.TheVariants.{Nothing};
-ghost use Rattle.receiver.specs.Receiver.{receive_refusal, dark, broken, light_for, spotted, found_record, burst_record, slot_record, reported};
+ghost use Rattle.std.specs.Prelude.{◌≡◌, ◌^◌, ◌<◌, ◌&&◌, length, if◌then◌else◌, Ok, Err, ◌==◌, nat_eq};
+ghost use Rattle.receiver.specs.Receiver.{receive_refusal, blank, light_for, answering, found_record, burst_record, slot_record, reported};
 
 use field::octets::Octets;
 use onu::answer::Kind;
@@ -11,10 +9,10 @@ use report::offset::Offset;
 use report::record::{Light, Record};
 
 // Why no report was made.
-#[derive(Clone, Copy, PartialEq, Eq)]
+#[derive(Clone, Copy, Debug, PartialEq, Eq)]
 pub enum ReceiveFault {
     // not 53 marks, or a report of other than 954 bytes
-    Length,
+    Length = 14,
 }
 
 impl ReceiveFault {
@@ -22,36 +20,17 @@ impl ReceiveFault {
     pub fn number(self) -> u32
         ensures { result ≡ receive_refusal self }
     {
-        match self {
-            ReceiveFault::Length => 14,
-        }
+        self as u32
     }
 }
 
-// What came in one slot.
-#[derive(Clone, Copy)]
-pub(crate) enum Found {
-    Nothing,
-    One(Burst),
-    Several,
-}
-
-fn dark_record() -> Record
-    ensures { result ≡ dark }
+// A record of nothing but its light.
+#[tactic(auto, unfolding(crate::specs::Receiver::blank))]
+fn blank(light: Light) -> Record
+    ensures { result ≡ blank light }
 {
     Record {
-        light: Light::Dark,
-        parity: 0,
-        offset: Offset::Late(0),
-        message: Octets::new([0; 12]),
-    }
-}
-
-fn broken_record() -> Record
-    ensures { result ≡ broken }
-{
-    Record {
-        light: Light::Broken,
+        light,
         parity: 0,
         offset: Offset::Late(0),
         message: Octets::new([0; 12]),
@@ -67,31 +46,8 @@ fn light(kind: Kind) -> Light
     }
 }
 
-// One burst more; those of other slots are passed over.
-fn spot(found: Found, burst: &Burst, slot: u128) -> Found
-    ensures { result ≡ spotted slot found burst.now }
-{
-    if u128::from(burst.slot) != slot {
-        return found;
-    }
-    match found {
-        Found::Nothing => Found::One(*burst),
-        Found::One(_) | Found::Several => Found::Several,
-    }
-}
-
-fn find(bursts: &[Burst], slot: u128) -> Found
-    ensures { result ≡ fold (spotted slot) Nothing bursts.now }
-{
-    let mut found = Found::Nothing;
-    for burst in bursts {
-        found = spot(found, burst, slot);
-    }
-    found
-}
-
-fn record_of(burst: &Burst, slot: u128) -> Record
-    requires { slot < 1000000000000000000000 }
+fn burst_record(burst: &Burst, slot: u128) -> Record
+    requires { slot < 2 ^ 100 }
     ensures { result ≡ burst_record burst.now slot }
 {
     match Offset::between(u128::from(burst.start), 448 * slot + 35392) {
@@ -101,31 +57,32 @@ fn record_of(burst: &Burst, slot: u128) -> Record
             offset,
             message: burst.message,
         },
-        None => broken_record(),
+        None => blank(Light::Broken),
     }
 }
 
-fn found_record(found: Found, slot: u128) -> Record
-    requires { slot < 1000000000000000000000 }
-    ensures { result ≡ found_record found slot }
+// The record of a slot that is heard.
+fn found_record(bursts: &[Burst], slot: u128) -> Record
+    requires { slot < 2 ^ 100 }
+    ensures { result ≡ found_record (answering slot bursts.now) slot }
 {
-    match found {
-        Found::Nothing => dark_record(),
-        Found::One(burst) => record_of(&burst, slot),
-        Found::Several => broken_record(),
+    let mut here = bursts.iter().filter(|burst| u128::from(burst.slot) == slot);
+    match (here.next(), here.next()) {
+        (None, _) => blank(Light::Dark),
+        (Some(burst), None) => burst_record(burst, slot),
+        (Some(_), Some(_)) => blank(Light::Broken),
     }
 }
 
 // The record of a slot, counted from 0 in its frame.
+#[tactic(auto, unfolding(crate::specs::Receiver::slot_record))]
 fn slot_record(frame: u64, x: usize, bursts: &[Burst], mark: u8) -> Record
-    requires { x < 53 }
     ensures { result ≡ slot_record frame x bursts.now mark }
 {
     if mark != 0 {
-        return dark_record();
+        return blank(Light::Dark);
     }
-    let slot = 53 * u128::from(frame) + x as u128;
-    found_record(find(bursts, slot), slot)
+    found_record(bursts, 53 * u128::from(frame) + x as u128)
 }
 
 // Writes a frame's report of 954 bytes; other lengths are refused and the buffer is left as it was.
@@ -141,8 +98,8 @@ pub fn receive(
     if marks.len() != 53 || report.len() != 954 {
         return Err(ReceiveFault::Length);
     }
-    for x in 0..53 {
-        let bytes = slot_record(frame, x, bursts, marks[x]).write();
+    for (x, mark) in marks.iter().enumerate() {
+        let bytes: [u8; 18] = slot_record(frame, x, bursts, *mark).into();
         report[18 * x..18 * x + 18].copy_from_slice(&bytes);
     }
     Ok(())

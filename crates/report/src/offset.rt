@@ -1,10 +1,10 @@
 // How far from its target a burst came.
-ghost use Rattle.std.specs.Prelude.{◌≡◌, ◌+◌, ◌*◌};
+ghost use Rattle.std.specs.Prelude.{◌≡◌};
 ghost use Rattle.report.specs.Offset.{offset_of, offset_bits, offset_between};
 
 use std::fmt;
 
-#[derive(Clone, Copy)]
+#[derive(Clone, Copy, PartialEq, Eq)]
 pub enum Offset {
     // so many bits before the target
     Early(u32),
@@ -12,45 +12,41 @@ pub enum Offset {
     Late(u32),
 }
 
-impl Offset {
-    // Two's complement of 32 bits.
-    pub fn from_bits(bits: u32) -> Offset
-        ensures { result ≡ offset_of bits }
-    {
+// Two's complement of 32 bits.
+impl From<u32> for Offset {
+    ghost from_gives = { λ bits offset. offset ≡ offset_of bits };
+
+    fn from(bits: u32) -> Offset {
         if bits < 2147483648 {
             Offset::Late(bits)
         } else {
-            Offset::Early((4294967296 - u64::from(bits)) as u32)
+            Offset::Early(bits.wrapping_neg())
         }
     }
+}
 
-    pub fn bits(self) -> u32
-        ensures { result ≡ offset_bits self }
-    {
-        match self {
-            Offset::Early(bits) => ((4294967296 - u64::from(bits)) % 4294967296) as u32,
+impl From<Offset> for u32 {
+    ghost from_gives = { λ offset bits. bits ≡ offset_bits offset };
+
+    fn from(offset: Offset) -> u32 {
+        match offset {
+            Offset::Early(bits) => bits.wrapping_neg(),
             Offset::Late(bits) => bits,
         }
     }
+}
 
+impl Offset {
     // How far a start lies from the time that is due, if 32 bits hold it.
     pub fn between(start: u128, due: u128) -> Option<Offset>
         ensures { result ≡ offset_between start due }
     {
         if start >= due {
             let late = start - due;
-            if late < 2147483648 {
-                Some(Offset::Late(late as u32))
-            } else {
-                None
-            }
+            (late < 2147483648).then(|| Offset::Late(late as u32))
         } else {
             let early = due - start;
-            if early <= 2147483648 {
-                Some(Offset::Early(early as u32))
-            } else {
-                None
-            }
+            (early <= 2147483648).then(|| Offset::Early(early as u32))
         }
     }
 }

@@ -5,14 +5,14 @@ ghost use Rattle.report.specs.Record.{light_of, light_byte, record_of, record_by
 use crate::offset::Offset;
 use field::octets::Octets;
 
-#[derive(Clone, Copy)]
+#[derive(Clone, Copy, PartialEq, Eq)]
 pub enum Light {
     // no light
-    Dark,
+    Dark = 0,
     // light that is no cell
-    Broken,
-    Ploam,
-    Data,
+    Broken = 1,
+    Ploam = 2,
+    Data = 3,
 }
 
 #[derive(Clone, Copy)]
@@ -39,59 +39,41 @@ impl Light {
             _ => Light::Broken,
         }
     }
+}
 
-    pub fn byte(self) -> u8
-        ensures { result ≡ light_byte self }
-    {
-        match self {
-            Light::Dark => 0,
-            Light::Broken => 1,
-            Light::Ploam => 2,
-            Light::Data => 3,
+impl From<Light> for u8 {
+    ghost from_gives = { λ light byte. byte ≡ light_byte light };
+
+    fn from(light: Light) -> u8 {
+        light as u8
+    }
+}
+
+impl From<&[u8; 18]> for Record {
+    ghost from_gives = { λ bytes r. r ≡ record_of bytes.now };
+
+    #[tactic(auto, using(crate::proofs::Parts::message_picked))]
+    fn from(bytes: &[u8; 18]) -> Record {
+        let [kind, parity, o0, o1, o2, o3, ..] = *bytes;
+        Record {
+            light: Light::read(kind, parity),
+            parity,
+            offset: Offset::from(u32::from_be_bytes([o0, o1, o2, o3])),
+            message: Octets::new(*bytes.last_chunk().unwrap()),
         }
     }
 }
 
-impl Record {
-    pub fn read(bytes: &[u8; 18]) -> Record
-        ensures { result ≡ record_of bytes.now }
-    {
-        let bits = u32::from_be_bytes([bytes[2], bytes[3], bytes[4], bytes[5]]);
-        Record {
-            light: Light::read(bytes[0], bytes[1]),
-            parity: bytes[1],
-            offset: Offset::from_bits(bits),
-            message: Octets::new([
-                bytes[6], bytes[7], bytes[8], bytes[9], bytes[10], bytes[11], bytes[12], bytes[13],
-                bytes[14], bytes[15], bytes[16], bytes[17],
-            ]),
-        }
-    }
+impl From<Record> for [u8; 18] {
+    ghost from_gives = { λ r bytes. bytes ≡ record_bytes r };
 
-    pub fn write(&self) -> [u8; 18]
-        ensures { result ≡ record_bytes self.now }
-    {
-        let o = self.offset.bits().to_be_bytes();
-        let m = self.message.bytes();
-        [
-            self.light.byte(),
-            self.parity,
-            o[0],
-            o[1],
-            o[2],
-            o[3],
-            m[0],
-            m[1],
-            m[2],
-            m[3],
-            m[4],
-            m[5],
-            m[6],
-            m[7],
-            m[8],
-            m[9],
-            m[10],
-            m[11],
-        ]
+    fn from(record: Record) -> [u8; 18] {
+        let offset = u32::from(record.offset).to_be_bytes();
+        let mut bytes = [0; 18];
+        bytes[0] = record.light.into();
+        bytes[1] = record.parity;
+        bytes[2..6].copy_from_slice(&offset);
+        bytes[6..].copy_from_slice(&record.message.bytes());
+        bytes
     }
 }

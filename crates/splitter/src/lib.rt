@@ -5,8 +5,8 @@ ghost use Rattle.std.specs.Prelude.{◌≡◌, ◌+◌, length};
 ghost use Rattle.splitter.specs.Splitter.{joined, SplitDoes};
 ghost use Rattle.splitter.specs.Splits.{joined_few, joined_sound, split_lawful};
 
+use cell::reader::Cell;
 use plant::burst::Burst;
-use plant::hearing::HearFault;
 use plant::plant::Plant;
 
 // The second side is dark where both together mean more than 64 ONUs.
@@ -41,26 +41,11 @@ impl<P: Plant, Q: Plant> Plant for Splitter<P, Q> {
         if both <= 64 { both } else { one }
     }
 
-    fn hear(
-        &mut self,
-        payload: &[u8],
-        first: u64,
-        bursts: &mut Vec<Burst>,
-    ) -> Result<(), HearFault> {
-        let both = self.one.count() + self.two.count();
-        if both > 64 {
-            return self.one.hear(payload, first, bursts);
+    fn accept(&mut self, cell: &Cell, first: u64, bursts: &mut Vec<Burst>) {
+        let dark = self.one.count() + self.two.count() > 64;
+        self.one.accept(cell, first, bursts);
+        if !dark {
+            self.two.accept(cell, first, bursts);
         }
-        if payload.len() != 48 {
-            return Err(HearFault::Length);
-        }
-        if bursts.capacity() - bursts.len() < 27 * both {
-            return Err(HearFault::Room);
-        }
-        if first >= 14918173765664768 {
-            return Err(HearFault::Late);
-        }
-        self.one.hear(payload, first, bursts)?;
-        self.two.hear(payload, first, bursts)
     }
 }

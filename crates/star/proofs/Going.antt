@@ -1,96 +1,108 @@
--- Arms hear a cell one after the other.
-use Rattle.std.proofs.Common.{◌≡◌, ℕ, ◌+◌, ◌*◌, ◌<◌, ◌≤◌, List, [], ◌∷◌, ◌++◌, length, get_or, take, drop, set, sym, refl, ap, ◌∙◌, subst, append_assoc, append-nil, arith, length-append}
-use Rattle.std.proofs.lemmas.List.{take_more, take_all, get_or-drop, drop-set-lt, take-set-le, get_or-set_same, length-set, drop-drop, take-append-drop}
+-- Arms take a cell one after the other.
+use Rattle.std.proofs.Common.{◌≡◌, ℕ, suc, ◌+◌, ◌-◌, ◌<◌, ◌≤◌, List, [], ◌∷◌, ◌++◌, length, get_or, take, drop, set, vec_items, vec_len, vec_capacity, Vec, sym, refl, ap, ◌∙◌, subst, append_assoc, append-nil, arith}
+use Rattle.std.proofs.Math.Seq.{take-suc-set}
+use Rattle.std.proofs.lemmas.List.{take_all, drop_all, drop-set-lt, drop-drop, take_at}
+use Rattle.std.specs.Vec.{with_items}
+use Rattle.std.specs.declared.alloc.Global.{Global}
 use Rattle.onu.specs.declared.state.Onu.{Onu}
-use Rattle.plant.specs.Lawful.{Does}
+use Rattle.plant.proofs.Room.{fewer, room_left}
+use Rattle.plant.specs.Hearing.{Bursts, Admitted, Taken}
+use Rattle.plant.specs.Lawful.{Does, Lawful}
 use Rattle.plant.specs.declared.burst.Burst.{Burst}
-use Rattle.star.specs.Star.{lit, lit_in, Arms, none}
-use Rattle.star.specs.Lit.{lit_yes, lit_no, lit_none, lit_step, lit-append, lit_grows, one_bright, one_dim}
+use Rattle.star.specs.Star.{lit, lit_in, Arms, none, bright, dim}
+use Rattle.star.specs.Lit.{lit_yes, lit_no, drop_next, lit_grows}
 
 module _ {X : Type 0} (means : X → List Onu) (D : Does X) (p : List ℕ) (f : ℕ) where
-  -- the first i arms have heard it: the arms as they were and as they are, how many ONUs are lit, the bursts before and now
-  pub record Going (was arms : List X) (i lights : ℕ) (old all : List Burst) : Type 0 where
+  -- the first i arms are done: the arms as they were and as they are, how many ONUs are lit, the burst list before and now;
+  -- whatever the others make of the cell, the first ones did their part, and there is room for the others
+  pub record Going (was arms : List X) (i lights : ℕ) (b0 b : Bursts) : Type 0 where
     pub new : List Burst
-    pub items : all ≡ old ++ new
-    pub heard : Arms means D p f 0 (take i was) (take i arms) new
+    pub items : vec_items b ≡ vec_items b0 ++ new
+    pub capacity : vec_capacity b ≡ vec_capacity b0
     pub rest : drop i arms ≡ drop i was
-    pub lights_are : lights ≡ lit_in means 0 (take i was)
-    pub few : length new ≤ 27 * lights
+    pub heard : (ys : List X) (vs : List Burst) → Arms means D p f lights (drop i was) ys vs → Arms means D p f 0 was (take i arms ++ ys) (new ++ vs)
     pub bound : lights ≤ 64
+    pub left : Admitted (lit_in means lights (drop i was) - lights) p f b
 
-  pub begun : (was : List X) (old : List Burst) → Going was was 0 0 old old
-  begun was old = record { new = []; items = sym (append-nil old); heard = none; rest = refl; lights_are = sym (lit_none means 0); few = omega arith; bound = omega arith }
+  pub begun : (was : List X) (b : Bursts) → Admitted (lit_in means 0 was) p f b → Going was was 0 0 b b
+  begun was b h =
+      record { new = []; items = sym (append-nil (vec_items b)); capacity = refl; rest = refl; heard = λ ys vs r. r; bound = omega arith; left = fewer _ h (omega arith) }
 
-  -- the arm at i is still as it was
-  same_arm : (was arms : List X) (i : ℕ) (d : X) → drop i arms ≡ drop i was → get_or arms i d ≡ get_or was i d
-  same_arm was arms i d e =
-      let k : i + 0 ≡ i = omega arith in
-      let a : get_or (drop i arms) 0 d ≡ get_or arms i d = subst (λ (j : ℕ). get_or (drop i arms) 0 d ≡ get_or arms j d) k (get_or-drop i arms 0 d) in
-      let b : get_or (drop i was) 0 d ≡ get_or was i d = subst (λ (j : ℕ). get_or (drop i was) 0 d ≡ get_or was j d) k (get_or-drop i was 0 d) in
-      sym a ∙ ap (λ (zs : List X). get_or zs 0 d) e ∙ b
+  pub ended : (was arms : List X) (i n : ℕ) (b0 b : Bursts) (so : Going was arms i n b0 b) → length was ≤ i → length arms ≡ length was → Arms means D p f 0 was arms so.new
+  ended was arms i n b0 b so h l =
+      let k : Arms means D p f n (drop i was) [] [] = subst (λ (zs : List X). Arms means D p f n zs [] []) (sym (drop_all i was h)) none in
+      subst (λ (vs : List Burst). Arms means D p f 0 was arms vs) (append-nil so.new)
+      (subst (λ (zs : List X). Arms means D p f 0 was zs (so.new ++ [])) (append-nil (take i arms) ∙ take_all i arms (omega arith)) (so.heard [] [] k))
 
-  next_drop : (i : ℕ) (xs : List X) → drop (i + 1) xs ≡ drop 1 (drop i xs)
-  next_drop i xs = sym (drop-drop 1 i xs)
+  -- the same, where the code has these values under other names
+  retold : (was arms : List X) (i n n' : ℕ) (b0 b b' : Bursts) → n' ≡ n → b' ≡ b → Going was arms i n b0 b → Going was arms i n' b0 b'
+  retold was arms i n n' b0 b b' e c so =
+      subst (λ (z : Bursts). Going was arms i n' b0 z) (sym c) (subst (λ (k : ℕ). Going was arms i k b0 b) (sym e) so)
 
-  module _ (was arms : List X) (i n : ℕ) (old all : List Burst) (so : Going was arms i n old all) (h : i < length was) (l : length arms ≡ length was) (x : X) (is : x ≡ get_or arms i x) where
-    was-is : x ≡ get_or was i x
-    was-is = is ∙ same_arm was arms i x so.rest
+  module _ (law : Lawful means D) (was arms : List X) (i n : ℕ) (b0 b : Bursts) (so : Going was arms i n b0 b) (h : i < length was) (l : length arms ≡ length was) (r : X) (m : ℕ) (count : m ≡ length (means (get_or arms i r))) where
+    abbrev x : X
+    x = get_or arms i r
 
-    front : take (i + 1) was ≡ take i was ++ x ∷ []
-    front = take_more was i x h ∙ ap (λ (z : X). take i was ++ z ∷ []) (sym was-is)
+    after : drop (i + 1) arms ≡ drop (i + 1) was
+    after = sym (drop-drop 1 i arms) ∙ ap (drop 1) so.rest ∙ drop-drop 1 i was
 
-    counted : lit_in means 0 (take (i + 1) was) ≡ lit n (length (means x))
-    counted = lit_step means 0 was i x h was-is ∙ ap (λ (k : ℕ). lit k (length (means x))) (sym so.lights_are)
+    split : drop i was ≡ x ∷ drop (i + 1) was
+    split = sym so.rest ∙ drop_next means arms i r (omega arith) ∙ ap (λ (zs : List X). x ∷ zs) after
 
-    -- one more lit arm stays within all that are lit
-    pub room_left : n + length (means x) ≤ 64 → n + length (means x) ≤ lit_in means 0 was
-    room_left k =
-        let a : lit_in means 0 (take (i + 1) was) ≡ n + length (means x) = counted ∙ lit_yes n (length (means x)) k in
-        let b : lit_in means 0 was ≡ lit_in means (lit_in means 0 (take (i + 1) was)) (drop (i + 1) was) =
-        ap (lit_in means 0) (sym (take-append-drop (i + 1) was)) ∙ lit-append means 0 (take (i + 1) was) (drop (i + 1) was) in
-        let c : lit_in means 0 (take (i + 1) was) ≤ lit_in means (lit_in means 0 (take (i + 1) was)) (drop (i + 1) was) = lit_grows means (lit_in means 0 (take (i + 1) was)) (drop (i + 1) was) in
-        omega arith
+    counted : lit_in means n (drop i was) ≡ lit_in means (lit n (length (means x))) (drop (i + 1) was)
+    unfolding lit_in
+    counted = ap (lit_in means n) split
 
-    pub dark_step : 64 < n + length (means x) → Going was arms (i + 1) n old all
-    dark_step k =
-        let g : i < length arms = omega arith in
-        let e : take (i + 1) arms ≡ take i arms ++ x ∷ [] = take_more arms i x g ∙ ap (λ (z : X). take i arms ++ z ∷ []) (sym is) in
-        let m : 64 < lit_in means 0 (take i was) + length (means x) = subst (λ (j : ℕ). 64 < j + length (means x)) so.lights_are k in
-        record {
-          new = so.new;
-          items = so.items;
-          heard = subst (λ (zs : List X). Arms means D p f 0 (take (i + 1) was) zs so.new) (sym e)
-              (subst (λ (zs : List X). Arms means D p f 0 zs (take i arms ++ x ∷ []) so.new) (sym front) (one_dim means D p f x so.heard m));
-          rest = next_drop i arms ∙ ap (drop 1) so.rest ∙ sym (next_drop i was);
-          lights_are = sym (counted ∙ lit_no n (length (means x)) k);
-          few = so.few;
-          bound = so.bound;
-        }
-
-    pub bright_step : n + length (means x) ≤ 64 → (b : X) (us all' : List Burst) (arms' : List X) → D x p f b us → length us ≤ 27 * length (means x) → all' ≡ all ++ us → arms' ≡ set arms i b
-        → Going was arms' (i + 1) (n + length (means x)) old all'
-    bright_step k b us all' arms' d u a s =
-        let g : i < length arms = omega arith in
-        let g' : i < length (set arms i b) = simp length-set (omega arith) in
-        let e : take (i + 1) arms' ≡ take i arms ++ b ∷ [] =
-        ap (take (i + 1)) s ∙ take_more (set arms i b) i b g' ∙ ap (λ (z : X). take i (set arms i b) ++ z ∷ []) (get_or-set_same arms i b b g)
-        ∙ ap (λ (zs : List X). zs ++ b ∷ []) (take-set-le i arms i b (omega arith)) in
-        let m : lit_in means 0 (take i was) + length (means x) ≤ 64 = subst (λ (j : ℕ). j + length (means x) ≤ 64) so.lights_are k in
-        let fw : length so.new ≤ 27 * n = so.few in
+    -- the next arm is done, and left y behind
+    step : (y : X) (us : List Burst) (n' : ℕ) (b' : Bursts) (arms' : List X)
+        → ((ys : List X) (vs : List Burst) → Arms means D p f n' (drop (i + 1) was) ys vs → Arms means D p f n (x ∷ drop (i + 1) was) (y ∷ ys) (us ++ vs))
+        → vec_items b' ≡ vec_items b ++ us → vec_capacity b' ≡ vec_capacity b → arms' ≡ set arms i y → n' ≤ 64 → Admitted (lit_in means n' (drop (i + 1) was) - n') p f b'
+        → Going was arms' (i + 1) n' b0 b'
+    step y us n' b' arms' one e c s k left =
+        let j : suc i ≡ i + 1 = omega arith in
+        let front : take (i + 1) arms' ≡ take i arms ++ y ∷ [] = ap (take (i + 1)) s ∙ subst (λ (k : ℕ). take k (set arms i y) ≡ take i arms ++ y ∷ []) j (take-suc-set arms i y (omega arith)) in
         record {
           new = so.new ++ us;
-          items = a ∙ ap (λ (zs : List Burst). zs ++ us) so.items ∙ append_assoc old so.new us;
-          heard = subst (λ (zs : List X). Arms means D p f 0 (take (i + 1) was) zs (so.new ++ us)) (sym e)
-              (subst (λ (zs : List X). Arms means D p f 0 zs (take i arms ++ b ∷ []) (so.new ++ us)) (sym front) (one_bright means D p f so.heard m d));
-          rest = ap (drop (i + 1)) s ∙ drop-set-lt (i + 1) arms i b (omega arith) ∙ next_drop i arms ∙ ap (drop 1) so.rest ∙ sym (next_drop i was);
-          lights_are = sym (counted ∙ lit_yes n (length (means x)) k);
-          few = simp length-append (omega arith);
+          items = e ∙ ap (λ (zs : List Burst). zs ++ us) so.items ∙ append_assoc (vec_items b0) so.new us;
+          capacity = c ∙ so.capacity;
+          rest = ap (drop (i + 1)) s ∙ drop-set-lt (i + 1) arms i y (omega arith) ∙ after;
+          heard = λ ys vs a.
+              let t : Arms means D p f 0 was (take i arms ++ y ∷ ys) (so.new ++ (us ++ vs)) =
+              so.heard (y ∷ ys) (us ++ vs) (subst (λ (zs : List X). Arms means D p f n zs (y ∷ ys) (us ++ vs)) (sym split) (one ys vs a)) in
+              subst (λ (ws : List Burst). Arms means D p f 0 was (take (i + 1) arms' ++ ys) ws) (sym (append_assoc so.new us vs))
+              (subst (λ (zs : List X). Arms means D p f 0 was zs (so.new ++ (us ++ vs))) (sym (append_assoc (take i arms) (y ∷ []) ys) ∙ ap (λ (zs : List X). zs ++ ys) (sym front)) t);
           bound = k;
+          left = left;
         }
 
-  pub ended : (was arms : List X) (i n : ℕ) (old all : List Burst) → Going was arms i n old all → length was ≤ i → length arms ≡ length was
-      → (new : List Burst) × (all ≡ old ++ new) × Arms means D p f 0 was arms new
-  ended was arms i n old all so h l =
-      let a : take i was ≡ was = take_all i was h in
-      let b : take i arms ≡ arms = take_all i arms (omega arith) in
-      (so.new, so.items, subst (λ (zs : List X). Arms means D p f 0 zs arms so.new) a (subst (λ (zs : List X). Arms means D p f 0 (take i was) zs so.new) b so.heard))
+    pub passed : 64 < n + m → (n' : ℕ) (b' : Bursts) (arms' : List X) → n' ≡ n → b' ≡ b → arms' ≡ set arms i x → Going was arms' (i + 1) n' b0 b'
+    passed k n' b' arms' e c s =
+        let d : 64 < n + length (means x) = omega arith in
+        let q : lit_in means n (drop i was) ≡ lit_in means n (drop (i + 1) was) = counted ∙ ap (λ (j : ℕ). lit_in means j (drop (i + 1) was)) (lit_no n (length (means x)) d) in
+        retold was arms' (i + 1) n n' b0 b b' e c
+        (step x [] n b arms' (λ ys vs a. dim d a) (sym (append-nil (vec_items b))) refl s so.bound (fewer (lit_in means n (drop (i + 1) was) - n) so.left (omega arith)))
+
+    bright_count : n + length (means x) ≤ 64 → lit_in means n (drop i was) ≡ lit_in means (n + length (means x)) (drop (i + 1) was)
+    bright_count k = counted ∙ ap (λ (j : ℕ). lit_in means j (drop (i + 1) was)) (lit_yes n (length (means x)) k)
+
+    pub admits : n + m ≤ 64 → Admitted (length (means x)) p f b
+    admits k =
+        let q = bright_count (omega arith) in
+        let g = lit_grows means (n + length (means x)) (drop (i + 1) was) in
+        fewer (length (means x)) so.left (omega arith)
+
+    pub took : n + m ≤ 64 → (y : X) (n' : ℕ) (b1 b' : Bursts) (arms' : List X) → Taken D x p f b y b1 → n' ≡ n + m → b' ≡ b1 → arms' ≡ set arms i y → Going was arms' (i + 1) n' b0 b'
+    took k y n' b1 b' arms' t e c s =
+        let d : n + length (means x) ≤ 64 = omega arith in
+        let q = bright_count d in
+        let g = lit_grows means (n + length (means x)) (drop (i + 1) was) in
+        let others = lit_in means (n + length (means x)) (drop (i + 1) was) - (n + length (means x)) in
+        retold was arms' (i + 1) (n + length (means x)) n' b0 b1 b' (omega arith) c
+        (step y t.appended.0 (n + length (means x)) b1 arms' (λ ys vs a. bright d t.appended.2 a) t.appended.1 t.capacity s d
+        (room_left law others (fewer (length (means x) + others) so.left (omega arith)) t))
+
+-- a list of arms that was lent whole and given back as long as it was
+pub given_back : {X : Type 0} (v : Vec X Global) (ys : List X) → length ys ≡ length (vec_items v) → vec_items (with_items v ys) ≡ ys
+given_back v ys e =
+    let l : vec_len v ≡ length (vec_items v) = v.ok.0 in
+    take_at ys (drop (length ys) (vec_items v)) (vec_len v) (e ∙ sym l)

@@ -1,15 +1,15 @@
 -- A star of lawful plants is one.
-use Rattle.std.specs.Prelude.{◌≡◌, ℕ, ◌+◌, ◌<◌, ◌≤◌, true, false, List, [], ◌∷◌, ◌++◌, length, take, nat_le, slice_index_or}
+use Rattle.std.specs.Prelude.{◌≡◌, ℕ, suc, ◌+◌, ◌<◌, ◌≤◌, true, false, List, [], ◌∷◌, ◌++◌, length, drop, nat_le, slice_index_or}
 use native.Mathlib.Omega.{arith}
 use Rattle.std.proofs.Math.Path.{refl, sym, ap, subst}
 use Rattle.std.proofs.Common.{◌∙◌, append_assoc, append-nil, inl, inr, length-append}
-use Rattle.std.proofs.lemmas.List.{take_more}
+use Rattle.std.proofs.Math.Seq.{drop-cons}
 use Rattle.std.proofs.lemmas.Bool.{cases_lt}
 use Rattle.onu.specs.declared.state.Onu.{Onu}
 use Rattle.splitter.specs.Splits.{joined_few, joined_sound, joined_whole, joined_dark}
 use Rattle.splitter.specs.Splitter.{joined}
 use Rattle.plant.proofs.Lists.{hears-append, hears-count}
-use Rattle.plant.specs.Lawful.{Does, Lawful, HearsCell, all_sound, none as nobody}
+use Rattle.plant.specs.Lawful.{Does, Lawful, HearsCell, all_sound, none as nobody, slot_limit}
 use Rattle.plant.specs.declared.burst.Burst.{Burst}
 use Rattle.star.specs.Star.{lit, lit_in, lighted, Arms, none, bright, dim}
 
@@ -34,19 +34,13 @@ module _ {X : Type 0} (means : X → List Onu) where
   unfolding lit_in
   lit_none n = refl
 
-  pub lit_snoc : (n : ℕ) (xs : List X) (a : X) → lit_in means n (xs ++ a ∷ []) ≡ lit (lit_in means n xs) (length (means a))
-  unfolding lit_in
-  lit_snoc n [] a = refl
-  lit_snoc n (x ∷ xs) a = lit_snoc (lit n (length (means x))) xs a
+  pub drop_next : (xs : List X) (i : ℕ) (d : X) → i < length xs → drop i xs ≡ slice_index_or xs i d ∷ drop (i + 1) xs
+  drop_next xs i d h = let e : suc i ≡ i + 1 = omega arith in subst (λ (j : ℕ). drop i xs ≡ slice_index_or xs i d ∷ drop j xs) e (drop-cons xs i d h)
 
-  pub lit_step : (n : ℕ) (xs : List X) (i : ℕ) (a : X) → i < length xs → a ≡ slice_index_or xs i a → lit_in means n (take (i + 1) xs) ≡ lit (lit_in means n (take i xs)) (length (means a))
-  lit_step n xs i a h e =
-      ap (lit_in means n) (take_more xs i a h) ∙ lit_snoc n (take i xs) (slice_index_or xs i a) ∙ ap (λ (x : X). lit (lit_in means n (take i xs)) (length (means x))) (sym e)
-
-  pub lit-append : (n : ℕ) (xs ys : List X) → lit_in means n (xs ++ ys) ≡ lit_in means (lit_in means n xs) ys
+  -- the arm at i is the first of those that are left
+  pub lit_next : (n : ℕ) (xs : List X) (i : ℕ) (a : X) → i < length xs → a ≡ slice_index_or xs i a → lit_in means n (drop i xs) ≡ lit_in means (lit n (length (means a))) (drop (i + 1) xs)
   unfolding lit_in
-  lit-append n [] ys = refl
-  lit-append n (x ∷ xs) ys = lit-append (lit n (length (means x))) xs ys
+  lit_next n xs i a h e = ap (lit_in means n) (drop_next xs i a h ∙ ap (λ (x : X). x ∷ drop (i + 1) xs) (sym e))
 
   pub lit_grows : (n : ℕ) (xs : List X) → n ≤ lit_in means n xs
   unfolding lit_in
@@ -69,32 +63,7 @@ module _ {X : Type 0} (means : X → List Onu) where
   lighted_sound law zs (x ∷ xs) h = lighted_sound law (joined zs (means x)) xs (joined_sound zs (means x) h (law x))
 
 module _ {X : Type 0} (means : X → List Onu) (D : Does X) (p : List ℕ) (f : ℕ) where
-  -- one arm more
-  pub one_bright : {n : ℕ} {xs ys : List X} {us vs : List Burst} {a b : X} → Arms means D p f n xs ys us → lit_in means n xs + length (means a) ≤ 64 → D a p f b vs
-      → Arms means D p f n (xs ++ a ∷ []) (ys ++ b ∷ []) (us ++ vs)
-  unfolding lit_in
-  one_bright {n} {vs = vs} {a = a} {b = b} none h d = subst (λ (ws : List Burst). Arms means D p f n (a ∷ []) (b ∷ []) ws) (append-nil vs) (bright h d none)
-  one_bright {n} {vs = vs} {a = a} {b = b} (bright {a = x} {b = y} {xs = xs} {ys = ys} {us = u1} {vs = u2} k e r) h d =
-      let l : lit n (length (means x)) ≡ n + length (means x) = lit_yes n (length (means x)) k in
-      let h' : lit_in means (n + length (means x)) xs + length (means a) ≤ 64 = subst (λ (i : ℕ). lit_in means i xs + length (means a) ≤ 64) l h in
-      subst (λ (ws : List Burst). Arms means D p f n (x ∷ (xs ++ a ∷ [])) (y ∷ (ys ++ b ∷ [])) ws) (sym (append_assoc u1 u2 vs)) (bright k e (one_bright r h' d))
-  one_bright {n} {vs = vs} {a = a} {b = b} (dim {a = x} {xs = xs} {ys = ys} k r) h d =
-      let l : lit n (length (means x)) ≡ n = lit_no n (length (means x)) k in
-      let h' : lit_in means n xs + length (means a) ≤ 64 = subst (λ (i : ℕ). lit_in means i xs + length (means a) ≤ 64) l h in
-      dim k (one_bright r h' d)
-
-  pub one_dim : (a : X) {n : ℕ} {xs ys : List X} {us : List Burst} → Arms means D p f n xs ys us → 64 < lit_in means n xs + length (means a)
-      → Arms means D p f n (xs ++ a ∷ []) (ys ++ a ∷ []) us
-  unfolding lit_in
-  one_dim a none h = dim h none
-  one_dim a {n} (bright {a = x} {xs = xs} k e r) h =
-      let l : lit n (length (means x)) ≡ n + length (means x) = lit_yes n (length (means x)) k in
-      bright k e (one_dim a r (subst (λ (i : ℕ). 64 < lit_in means i xs + length (means a)) l h))
-  one_dim a {n} (dim {a = x} {xs = xs} k r) h =
-      let l : lit n (length (means x)) ≡ n = lit_no n (length (means x)) k in
-      dim k (one_dim a r (subst (λ (i : ℕ). 64 < lit_in means i xs + length (means a)) l h))
-
-  module _ (law : Lawful means D) (l : length p ≡ 48) (h : f < 14918173765664768) where
+  module _ (law : Lawful means D) (l : length p ≡ 48) (h : f < slot_limit) where
     -- arms heard after others
     arms-heard : {n : ℕ} {xs ys : List X} {new old : List Burst} (zs zs' : List Onu) → n ≡ length zs → HearsCell p f zs zs' old → Arms means D p f n xs ys new
         → HearsCell p f (lighted means zs xs) (lighted means zs' ys) (old ++ new)

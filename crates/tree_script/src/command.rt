@@ -1,8 +1,10 @@
 // A line of a script read as a command.
 use crate::tree::{Change, HostEvent, PORTS};
-use readable::hex::{NotHex, bytes as bytes_of};
+use readable::hex::{self, NotHex};
 use std::alloc::Global;
-use std::str::SplitWhitespace;
+use std::str::{FromStr, SplitWhitespace};
+
+const BYTES: &str = "bytes in hex, or - for none";
 
 #[derive(Drop)]
 pub enum Command {
@@ -16,7 +18,7 @@ pub enum Command {
     Room(usize),
     Clear,
     Hear {
-        count: u64,
+        count: usize,
         slot: u64,
         payload: Vec<u8>,
     },
@@ -28,132 +30,150 @@ pub enum Command {
 }
 
 // Why a line is no command.
-#[derive(Clone, Copy)]
+#[derive(Clone, Copy, Debug, PartialEq, Eq)]
 pub enum NoCommand {
     // what should have stood there
     Expected(&'static str),
     Memory,
 }
 
-fn number(word: Option<&str>, most: u64) -> Option<u64> {
-    let text = word?;
-    if text.starts_with('+') {
-        return None;
-    }
-    let value = text.parse::<u64>().ok()?;
-    if value <= most { Some(value) } else { None }
-}
-
-// Bytes in hex, a dash for none.
-fn bytes(heap: Global, word: Option<&str>) -> Result<Vec<u8>, NoCommand> {
-    let expected = NoCommand::Expected("bytes in hex, or - for none");
-    match word.ok_or(expected)? {
-        "-" => Ok(Vec::new(heap)),
-        digits => match bytes_of(heap, digits) {
-            Ok(bytes) => Ok(bytes),
-            Err(NotHex::Digits) => Err(expected),
-            Err(NotHex::Memory) => Err(NoCommand::Memory),
-        },
-    }
-}
-
-// A number of 64 bits in 16 hex digits.
-fn word64(heap: Global, word: Option<&str>) -> Result<u64, NoCommand> {
-    let digits = bytes(heap, word)?;
-    match <[u8; 8]>::try_from(digits.as_slice()) {
-        Ok(eight) => Ok(u64::from_be_bytes(eight)),
-        Err(_) => Err(NoCommand::Expected("16 hex digits")),
-    }
-}
-
-fn port_of(word: Option<&str>) -> Result<usize, NoCommand> {
-    let port = number(word, PORTS as u64 - 1).ok_or(NoCommand::Expected("a port, 0 to 64"))?;
-    Ok(port as usize)
-}
-
-fn word32(word: Option<&str>) -> Result<u64, NoCommand> {
-    number(word, 4294967295).ok_or(NoCommand::Expected("a number below 4294967296"))
-}
-
-fn slot_of(word: Option<&str>) -> Result<u64, NoCommand> {
-    number(word, u64::MAX).ok_or(NoCommand::Expected("a number of 64 bits"))
-}
-
-fn host_event(words: &mut SplitWhitespace<'_>, name: &str) -> Result<HostEvent, NoCommand> {
-    match (name, words.next()) {
-        ("signal", Some("lost")) => Ok(HostEvent::SignalLost),
-        ("signal", Some("back")) => Ok(HostEvent::SignalBack),
-        ("power", Some("lost")) => Ok(HostEvent::PowerLost),
-        ("trip", word) => Ok(HostEvent::Trip(word32(word)?)),
-        ("signal", _) => Err(NoCommand::Expected("lost or back")),
-        _ => Err(NoCommand::Expected("lost")),
-    }
-}
-
-fn change(heap: Global, words: &mut SplitWhitespace<'_>, name: &str) -> Result<Change, NoCommand> {
-    match name {
-        "onu" => {
-            let serial = word64(heap, words.next())?;
-            let trip = word32(words.next())?;
-            Ok(Change::Plug { serial, trip })
+impl From<NotHex> for NoCommand {
+    fn from(fault: NotHex) -> NoCommand {
+        match fault {
+            NotHex::Digits => NoCommand::Expected(BYTES),
+            NotHex::Memory => NoCommand::Memory,
         }
-        "fibre" => Ok(Change::FibreBits(word32(words.next())?)),
-        "loss" => Ok(Change::Pattern(word64(heap, words.next())?)),
-        _ => Ok(Change::Host(host_event(words, name)?)),
     }
 }
 
-fn hear(heap: Global, words: &mut SplitWhitespace<'_>, count: u64) -> Result<Command, NoCommand> {
-    let slot = slot_of(words.next())?;
-    let payload = bytes(heap, words.next())?;
-    Ok(Command::Hear {
-        count,
-        slot,
-        payload,
-    })
+// The words of a line that are still to be read.
+#[derive(Drop)]
+struct Words<'a> {
+    heap: Global,
+    words: SplitWhitespace<'a>,
 }
 
-fn named(heap: Global, words: &mut SplitWhitespace<'_>, name: &str) -> Result<Command, NoCommand> {
-    match name {
-        "new" => Ok(Command::New),
-        "clear" => Ok(Command::Clear),
-        "show" => Ok(Command::Show),
-        "feeder" => Ok(Command::Feeder(word32(words.next())?)),
-        "feederloss" => Ok(Command::FeederPattern(word64(heap, words.next())?)),
-        "room" => {
-            let room = number(words.next(), 1000000);
-            Ok(Command::Room(room.ok_or(NoCommand::Expected("a number up to 1000000"))? as usize))
+impl<'a> Words<'a> {
+    fn word(&mut self, expected: &'static str) -> Result<&'a str, NoCommand> {
+        self.words.next().ok_or(NoCommand::Expected(expected))
+    }
+
+    // A decimal number without a sign.
+    fn number<T>(&mut self, most: T, expected: &'static str) -> Result<T, NoCommand>
+    where
+        T: FromStr + PartialOrd + Drop,
+        T::Err: Drop,
+    {
+        let word = self.word(expected)?;
+        let number = word.parse::<T>().ok();
+        number
+            .filter(|number| *number <= most && !word.starts_with('+'))
+            .ok_or(NoCommand::Expected(expected))
+    }
+
+    fn port(&mut self) -> Result<usize, NoCommand> {
+        self.number(PORTS - 1, "a port, 0 to 64")
+    }
+
+    fn word32(&mut self) -> Result<u64, NoCommand> {
+        self.number(u64::from(u32::MAX), "a number below 4294967296")
+    }
+
+    fn word64(&mut self) -> Result<u64, NoCommand> {
+        self.number(u64::MAX, "a number of 64 bits")
+    }
+
+    // Bytes in hex, a dash for none.
+    fn bytes(&mut self) -> Result<Vec<u8>, NoCommand> {
+        match self.word(BYTES)? {
+            "-" => Ok(Vec::new(self.heap)),
+            digits => Ok(hex::bytes(self.heap, digits)?),
         }
-        "cell" => hear(heap, words, 1),
-        "repeat" => {
-            let count = number(words.next(), 10000000);
-            hear(
-                heap,
-                words,
-                count.ok_or(NoCommand::Expected("a count up to 10000000"))?,
-            )
+    }
+
+    // A number of 64 bits in 16 hex digits.
+    fn hex64(&mut self) -> Result<u64, NoCommand> {
+        match <[u8; 8]>::try_from(self.bytes()?.as_slice()) {
+            Ok(eight) => Ok(u64::from_be_bytes(eight)),
+            Err(_) => Err(NoCommand::Expected("16 hex digits")),
         }
-        "report" => {
-            let frame = slot_of(words.next())?;
-            let marks = bytes(heap, words.next())?;
-            Ok(Command::Report { frame, marks })
+    }
+
+    fn end(&mut self) -> Result<(), NoCommand> {
+        match self.words.next() {
+            None => Ok(()),
+            Some(_) => Err(NoCommand::Expected("the end of the line")),
         }
-        "onu" | "fibre" | "loss" | "signal" | "power" | "trip" => {
-            let port = port_of(words.next())?;
-            let change = change(heap, words, name)?;
-            Ok(Command::Port { port, change })
+    }
+
+    fn host_event(&mut self, name: &str) -> Result<HostEvent, NoCommand> {
+        match (name, self.words.next()) {
+            ("signal", Some("lost")) => Ok(HostEvent::SignalLost),
+            ("signal", Some("back")) => Ok(HostEvent::SignalBack),
+            ("power", Some("lost")) => Ok(HostEvent::PowerLost),
+            ("signal", _) => Err(NoCommand::Expected("lost or back")),
+            _ => Err(NoCommand::Expected("lost")),
         }
-        _ => Err(NoCommand::Expected("a command")),
+    }
+
+    fn change(&mut self, name: &str) -> Result<Change, NoCommand> {
+        match name {
+            "onu" => Ok(Change::Plug {
+                serial: self.hex64()?,
+                trip: self.word32()?,
+            }),
+            "fibre" => Ok(Change::FibreBits(self.word32()?)),
+            "loss" => Ok(Change::Pattern(self.hex64()?)),
+            "trip" => Ok(Change::Host(HostEvent::Trip(self.word32()?))),
+            _ => Ok(Change::Host(self.host_event(name)?)),
+        }
+    }
+
+    fn hear(&mut self, count: usize) -> Result<Command, NoCommand> {
+        Ok(Command::Hear {
+            count,
+            slot: self.word64()?,
+            payload: self.bytes()?,
+        })
+    }
+
+    // The command of that name.
+    fn command(&mut self, name: &str) -> Result<Command, NoCommand> {
+        match name {
+            "new" => Ok(Command::New),
+            "clear" => Ok(Command::Clear),
+            "show" => Ok(Command::Show),
+            "feeder" => Ok(Command::Feeder(self.word32()?)),
+            "feederloss" => Ok(Command::FeederPattern(self.hex64()?)),
+            "room" => Ok(Command::Room(self.number(1000000, "a number up to 1000000")?)),
+            "cell" => self.hear(1),
+            "repeat" => {
+                let count = self.number(10000000, "a count up to 10000000")?;
+                self.hear(count)
+            }
+            "report" => Ok(Command::Report {
+                frame: self.word64()?,
+                marks: self.bytes()?,
+            }),
+            "onu" | "fibre" | "loss" | "signal" | "power" | "trip" => Ok(Command::Port {
+                port: self.port()?,
+                change: self.change(name)?,
+            }),
+            _ => Err(NoCommand::Expected("a command")),
+        }
     }
 }
 
-// The command of a line.
-pub fn read(heap: Global, line: &str) -> Result<Command, NoCommand> {
-    let mut words = line.split_whitespace();
-    let name = words.next().ok_or(NoCommand::Expected("a command"))?;
-    let command = named(heap, &mut words, name)?;
-    match words.next() {
-        None => Ok(command),
-        Some(_) => Err(NoCommand::Expected("the end of the line")),
+impl Command {
+    // The command of a line.
+    pub fn read(heap: Global, line: &str) -> Result<Command, NoCommand> {
+        let mut words = Words {
+            heap,
+            words: line.split_whitespace(),
+        };
+        let name = words.word("a command")?;
+        let command = words.command(name)?;
+        words.end()?;
+        Ok(command)
     }
 }

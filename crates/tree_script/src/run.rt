@@ -1,12 +1,33 @@
 // Scripts run line by line.
-use crate::command::{Command, NoCommand, read};
-use crate::shown::{Hex, ShownBurst, ShownOnu};
+use crate::command::{Command, NoCommand};
+use crate::shown::{Move, ShownBurst, ShownOnu};
 use crate::tree::{Change, PORTS, Tree};
+use onu::state::State;
 use plant::burst::Burst;
+use readable::hex::Digits;
 use receiver::receive::receive;
 use std::alloc::{AllocError, Global};
-use std::io;
 use std::io::{BufRead, BufReader};
+use std::{array, fmt, io, iter};
+
+// What came over the whole script.
+#[derive(Clone, Copy, Default)]
+struct Totals {
+    heard: u64,
+    refused: u64,
+    sent: u64,
+}
+
+impl fmt::Display for Totals {
+    fn fmt<W: fmt::Write>(&self, f: &mut fmt::Formatter<W>) -> fmt::Result {
+        let Totals {
+            heard,
+            refused,
+            sent,
+        } = *self;
+        write!(f, "heard {heard} cells, {refused} refused, {sent} bursts")
+    }
+}
 
 #[derive(Drop)]
 struct Script {
@@ -15,153 +36,128 @@ struct Script {
     bursts: Vec<Burst>,
     // cells since the line was new
     cells: u64,
-    // over the whole script
-    heard: u64,
-    refused: u64,
-    sent: u64,
+    totals: Totals,
+    // what is to be printed
+    out: String,
 }
 
 const ROOM: usize = 65536;
 
 impl Script {
     fn new(heap: Global) -> Result<Script, AllocError> {
-        let tree = Tree::new(heap)?;
-        let bursts = Vec::with_capacity(heap, ROOM)?;
         Ok(Script {
             heap,
-            tree,
-            bursts,
+            tree: Tree::new(heap)?,
+            bursts: Vec::with_capacity(heap, ROOM)?,
             cells: 0,
-            heard: 0,
-            refused: 0,
-            sent: 0,
+            totals: Totals::default(),
+            out: String::new(heap),
         })
     }
 
-    // A fresh line; the totals go on.
+    // A fresh line; the totals go on. Nothing of the last line of the script is left to print.
     fn renew(&mut self) -> Result<(), AllocError> {
-        self.tree = Tree::new(self.heap)?;
-        self.bursts = Vec::with_capacity(self.heap, ROOM)?;
-        self.cells = 0;
+        let totals = self.totals;
+        *self = Script {
+            totals,
+            ..Script::new(self.heap)?
+        };
         Ok(())
     }
 
-    // The state of each port's ONU, 0 where there is none.
-    fn states(&self) -> [u8; PORTS] {
-        let mut states = [0; PORTS];
-        for port in 0..PORTS {
-            if let Some(onu) = self.tree.look(port) {
-                states[port] = onu.state.number();
-            }
-        }
-        states
+    // The state of a port's ONU.
+    fn state(&self, port: usize) -> Option<State> {
+        self.tree.look(port).map(|onu| onu.state)
     }
 
-    fn tell_bursts(&mut self, from: usize, out: &mut String) -> Result<(), AllocError> {
+    fn states(&self) -> [Option<State>; PORTS] {
+        array::from_fn(|port| self.state(port))
+    }
+
+    // The bursts from a place in the list on.
+    fn tell_bursts(&mut self, from: usize) -> Result<(), AllocError> {
         let cell = self.cells;
-        for burst in self.bursts.iter().skip(from) {
-            self.sent = self.sent.saturating_add(1);
-            let shown = ShownBurst { burst };
-            writeln!(out, "{cell}: {shown}")?;
+        let new = self.bursts.as_slice().get(from..).unwrap_or(&[]);
+        self.totals.sent = self.totals.sent.saturating_add(new.len() as u64);
+        for burst in new {
+            writeln!(self.out, "{cell}: {}", ShownBurst(burst))?;
         }
         Ok(())
     }
 
-    fn tell_moves(&self, before: &[u8; PORTS], out: &mut String) -> Result<(), AllocError> {
+    fn tell_moves(&mut self, before: &[Option<State>; PORTS]) -> Result<(), AllocError> {
         let cell = self.cells;
         let after = self.states();
-        for port in 0..PORTS {
-            let old = before[port];
-            let new = after[port];
-            if old != new {
-                writeln!(out, "{cell}: port {port} O{old} -> O{new}")?;
+        for (port, (old, new)) in before.iter().zip(&after).enumerate() {
+            if let Some(moved) = Move::between(*old, *new) {
+                writeln!(self.out, "{cell}: port {port} {moved}")?;
             }
         }
         Ok(())
     }
 
-    fn hear(&mut self, slot: u64, payload: &[u8], out: &mut String) -> Result<(), AllocError> {
+    fn hear(&mut self, slot: u64, payload: &[u8]) -> Result<(), AllocError> {
         self.cells = self.cells.saturating_add(1);
-        self.heard = self.heard.saturating_add(1);
+        self.totals.heard = self.totals.heard.saturating_add(1);
         let before = self.states();
         let from = self.bursts.len();
         match self.tree.hear(payload, slot, &mut self.bursts) {
             Ok(()) => {
-                self.tell_bursts(from, out)?;
-                self.tell_moves(&before, out)
+                self.tell_bursts(from)?;
+                self.tell_moves(&before)
             }
             Err(fault) => {
-                self.refused = self.refused.saturating_add(1);
+                self.totals.refused = self.totals.refused.saturating_add(1);
                 let cell = self.cells;
-                let number = fault.number();
-                writeln!(out, "{cell}: refused {number}")
+                writeln!(self.out, "{cell}: refused {}", fault.number())
             }
         }
     }
 
-    fn change(&mut self, port: usize, change: Change, out: &mut String) -> Result<(), AllocError> {
-        let Change::Host(_) = change else {
-            self.tree.change(port, change);
-            return Ok(());
-        };
-        let Some(before) = self.tree.look(port) else {
-            return writeln!(out, "port {port}: empty");
-        };
+    fn change(&mut self, port: usize, change: Change) -> Result<(), AllocError> {
+        let before = self.state(port);
         self.tree.change(port, change);
-        let old = before.state.number();
-        let new = match self.tree.look(port) {
-            Some(onu) => onu.state.number(),
-            None => old,
-        };
-        if old == new {
+        let Change::Host(_) = change else {
             return Ok(());
+        };
+        if before.is_none() {
+            return writeln!(self.out, "port {port}: empty");
         }
-        writeln!(out, "port {port} O{old} -> O{new}")
+        match Move::between(before, self.state(port)) {
+            Some(moved) => writeln!(self.out, "port {port} {moved}"),
+            None => Ok(()),
+        }
     }
 
-    fn show(&self, out: &mut String) -> Result<(), AllocError> {
+    fn show(&mut self) -> Result<(), AllocError> {
         for port in 0..PORTS {
             if let Some(onu) = self.tree.look(port) {
-                let shown = ShownOnu { onu: &onu };
-                writeln!(out, "port {port} {shown}")?;
+                writeln!(self.out, "port {port} {}", ShownOnu(&onu))?;
             }
         }
         Ok(())
     }
 
-    fn report(&self, frame: u64, marks: &[u8], out: &mut String) -> Result<(), AllocError> {
-        let mut report = [0; 954];
-        match receive(frame, self.bursts.as_slice(), marks, &mut report) {
-            Ok(()) => {
-                let shown = Hex { bytes: &report };
-                writeln!(out, "report {frame}: {shown}")
-            }
-            Err(fault) => {
-                let number = fault.number();
-                writeln!(out, "report {frame}: refused {number}")
-            }
+    fn report(&mut self, frame: u64, marks: &[u8]) -> Result<(), AllocError> {
+        let mut bytes = [0; 954];
+        match receive(frame, self.bursts.as_slice(), marks, &mut bytes) {
+            Ok(()) => writeln!(self.out, "report {frame}: {}", Digits(&bytes)),
+            Err(fault) => writeln!(self.out, "report {frame}: refused {}", fault.number()),
         }
     }
 
-    fn hear_all(
-        &mut self,
-        count: u64,
-        slot: u64,
-        payload: &[u8],
-        out: &mut String,
-    ) -> Result<(), AllocError> {
-        let mut next = slot;
-        for _ in 0..count {
-            self.hear(next, payload, out)?;
-            next = next.saturating_add(27);
+    // The cell so many times, each time 27 slots later.
+    fn hear_all(&mut self, count: usize, slot: u64, payload: &[u8]) -> Result<(), AllocError> {
+        for slot in iter::successors(Some(slot), |slot| Some(slot.saturating_add(27))).take(count) {
+            self.hear(slot, payload)?;
         }
         Ok(())
     }
 
-    fn act(&mut self, command: Command, out: &mut String) -> Result<(), AllocError> {
+    fn act(&mut self, command: Command) -> Result<(), AllocError> {
         match command {
             Command::New => self.renew()?,
-            Command::Port { port, change } => self.change(port, change, out)?,
+            Command::Port { port, change } => self.change(port, change)?,
             Command::Feeder(bits) => self.tree.set_feeder(bits),
             Command::FeederPattern(pattern) => self.tree.set_feeder_pattern(pattern),
             Command::Room(room) => self.bursts = Vec::with_capacity(self.heap, room)?,
@@ -170,21 +166,21 @@ impl Script {
                 count,
                 slot,
                 payload,
-            } => self.hear_all(count, slot, payload.as_slice(), out)?,
-            Command::Show => self.show(out)?,
-            Command::Report { frame, marks } => self.report(frame, marks.as_slice(), out)?,
+            } => self.hear_all(count, slot, payload.as_slice())?,
+            Command::Show => self.show()?,
+            Command::Report { frame, marks } => self.report(frame, marks.as_slice())?,
         }
         Ok(())
     }
 
-    fn line(&mut self, number: u64, line: &str, out: &mut String) -> Result<(), AllocError> {
+    fn line(&mut self, number: u64, line: &str) -> Result<(), AllocError> {
         let text = line.trim();
         if text.is_empty() || text.starts_with('#') {
             return Ok(());
         }
-        match read(self.heap, text) {
-            Ok(command) => self.act(command, out),
-            Err(NoCommand::Expected(what)) => writeln!(out, "line {number}: expected {what}"),
+        match Command::read(self.heap, text) {
+            Ok(command) => self.act(command),
+            Err(NoCommand::Expected(what)) => writeln!(self.out, "line {number}: expected {what}"),
             Err(NoCommand::Memory) => Err(AllocError),
         }
     }
@@ -194,16 +190,12 @@ impl Script {
 pub fn run(rt: &HostRuntime) -> io::Result<()> {
     let heap = rt.alloc();
     let mut script = Script::new(heap)?;
-    let mut number = 0u64;
-    for line in BufReader::new(heap, rt.stdin())?.split(heap, b'\n') {
-        number = number.saturating_add(1);
+    let lines = BufReader::new(heap, rt.stdin())?.split(heap, b'\n');
+    for (line, number) in lines.zip(1..) {
         let text = String::from_utf8_lossy(heap, line?.as_slice())?;
-        let mut out = String::new(heap);
-        script.line(number, text.as_str(), &mut out)?;
-        rt.print(out)?;
+        script.line(number, text.as_str())?;
+        rt.print(script.out.as_str())?;
+        script.out.clear();
     }
-    let heard = script.heard;
-    let refused = script.refused;
-    let sent = script.sent;
-    println!(rt; "heard {heard} cells, {refused} refused, {sent} bursts")
+    println!(rt; "{}", script.totals)
 }

@@ -1,82 +1,62 @@
 // Bursts and ONUs as text.
-use field::bounded::Bounded;
-use onu::state::Onu;
+use onu::state::{Onu, State};
 use plant::burst::Burst;
+use readable::hex::Digits;
 use report::offset::Offset;
 use std::fmt;
 
-// Bytes as hex digits.
+// A value, or a word where there is none.
 #[derive(Clone, Copy)]
-pub struct Hex<'a> {
-    pub bytes: &'a [u8],
-}
+struct Or<T>(Option<T>, &'static str);
 
-impl fmt::Display for Hex<'_> {
+impl<T: fmt::Display> fmt::Display for Or<T> {
     fn fmt<W: fmt::Write>(&self, f: &mut fmt::Formatter<W>) -> fmt::Result {
-        for byte in self.bytes {
-            let byte = *byte;
-            write!(f, "{byte:02x}")?;
-        }
-        Ok(())
-    }
-}
-
-// A number or none.
-#[derive(Clone, Copy)]
-struct Held {
-    value: Option<u8>,
-}
-
-fn shown_as<const LOW: u8, const HIGH: u8>(value: Option<Bounded<LOW, HIGH>>) -> Held {
-    match value {
-        Some(bounded) => Held {
-            value: Some(bounded.value()),
-        },
-        None => Held { value: None },
-    }
-}
-
-impl fmt::Display for Held {
-    fn fmt<W: fmt::Write>(&self, f: &mut fmt::Formatter<W>) -> fmt::Result {
-        match self.value {
+        match &self.0 {
             Some(value) => write!(f, "{value}"),
-            None => f.write_str("none"),
+            None => f.write_str(self.1),
         }
     }
 }
 
-// How far a burst came from its target.
+// One state left for another.
 #[derive(Clone, Copy)]
-struct Distance {
-    start: u64,
-    slot: u64,
+pub struct Move {
+    old: State,
+    new: State,
 }
 
-impl fmt::Display for Distance {
+impl Move {
+    // None where there is no ONU, and where its state stayed.
+    pub fn between(old: Option<State>, new: Option<State>) -> Option<Move> {
+        let (old, new) = (old?, new?);
+        (old != new).then_some(Move { old, new })
+    }
+}
+
+impl fmt::Display for Move {
     fn fmt<W: fmt::Write>(&self, f: &mut fmt::Formatter<W>) -> fmt::Result {
-        let due = 448 * u128::from(self.slot) + 35392;
-        match Offset::between(u128::from(self.start), due) {
-            Some(offset) => write!(f, "{offset}"),
-            None => f.write_str("far"),
-        }
+        write!(f, "O{} -> O{}", self.old.number(), self.new.number())
     }
 }
 
 #[derive(Clone, Copy)]
-pub struct ShownBurst<'a> {
-    pub burst: &'a Burst,
-}
+pub struct ShownBurst<'a>(pub &'a Burst);
 
 impl fmt::Display for ShownBurst<'_> {
     fn fmt<W: fmt::Write>(&self, f: &mut fmt::Formatter<W>) -> fmt::Result {
-        let serial = self.burst.serial.value();
-        let slot = self.burst.slot;
-        let start = self.burst.start;
-        let offset = Distance { start, slot };
-        let trip = self.burst.trip.value();
-        let kind = self.burst.kind.number();
-        let bytes = self.burst.message.bytes();
-        let message = Hex { bytes: &bytes };
+        let Burst {
+            serial,
+            slot,
+            start,
+            trip,
+            kind,
+            message,
+        } = *self.0;
+        let due = 448 * u128::from(slot) + 35392;
+        let offset = Or(Offset::between(u128::from(start), due), "far");
+        let (serial, trip, kind) = (serial.value(), trip.value(), kind.number());
+        let bytes = message.bytes();
+        let message = Digits(&bytes);
         write!(
             f,
             "burst {serial:016x} slot={slot} start={start} offset={offset} "
@@ -86,20 +66,25 @@ impl fmt::Display for ShownBurst<'_> {
 }
 
 #[derive(Clone, Copy)]
-pub struct ShownOnu<'a> {
-    pub onu: &'a Onu,
-}
+pub struct ShownOnu<'a>(pub &'a Onu);
 
 impl fmt::Display for ShownOnu<'_> {
     fn fmt<W: fmt::Write>(&self, f: &mut fmt::Formatter<W>) -> fmt::Result {
-        let serial = self.onu.serial.value();
-        let state = self.onu.state.number();
-        let id = shown_as(self.onu.id);
-        let grant = shown_as(self.onu.grant);
-        let ploam = shown_as(self.onu.ploam);
-        let preset = self.onu.preset.bits();
-        let register = self.onu.register.bits();
-        let trip = self.onu.trip.value();
+        let Onu {
+            serial,
+            state,
+            id,
+            grant,
+            ploam,
+            preset,
+            register,
+            trip,
+        } = *self.0;
+        let (serial, state) = (serial.value(), state.number());
+        let id = Or(id.map(|id| id.value()), "none");
+        let grant = Or(grant.map(|code| code.value()), "none");
+        let ploam = Or(ploam.map(|code| code.value()), "none");
+        let (preset, register, trip) = (preset.value(), register.value(), trip.value());
         write!(
             f,
             "{serial:016x} O{state} pon_id={id} data={grant} ploam={ploam} "

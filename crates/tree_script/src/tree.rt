@@ -47,49 +47,42 @@ pub enum HostEvent {
 }
 
 fn empty_port() -> Port {
-    LossyDrop::new(Fibre::new(Outlet::Empty, 0), 0)
+    LossyDrop::new(Fibre::new(Outlet { plant: None }, 0), 0)
 }
 
-fn happen(mut onu: BenchOnu, event: HostEvent) -> BenchOnu {
+fn happen(onu: &mut BenchOnu, event: HostEvent) {
     match event {
         HostEvent::SignalLost => onu.lose_signal(),
         HostEvent::SignalBack => onu.regain_signal(),
         HostEvent::PowerLost => onu.lose_power(),
         HostEvent::Trip(bits) => onu.move_trip(bits),
     }
-    onu
 }
 
 fn change_port(port: &mut Port, change: Change) {
     match change {
         Change::Plug { serial, trip } => {
             let onu = BenchOnu::new(SerialNumber::saturating(serial), trip);
-            port.plant.plant = Outlet::Filled(onu);
+            port.plant.plant.plant = Some(onu);
         }
         Change::FibreBits(bits) => port.plant.bits = FibreBits::saturating(bits),
         Change::Pattern(pattern) => port.pattern = pattern,
         Change::Host(event) => {
-            if let Outlet::Filled(onu) = port.plant.plant {
-                port.plant.plant = Outlet::Filled(happen(onu, event));
+            if let Some(onu) = &mut port.plant.plant.plant {
+                happen(onu, event);
             }
         }
     }
 }
 
 fn plugged(port: &Port) -> Option<Onu> {
-    match port.plant.plant {
-        Outlet::Empty => None,
-        Outlet::Filled(onu) => Some(onu.look()),
-    }
+    port.plant.plant.plant.as_ref().map(|onu| onu.look())
 }
 
 impl Tree {
     // All ports empty.
     pub fn new(heap: Global) -> Result<Tree, AllocError> {
-        let mut arms = Vec::new(heap);
-        for _ in 0..LAST {
-            arms.push(empty_port())?;
-        }
+        let arms = (0..LAST).map(|_| empty_port()).collect(heap)?;
         let ports = Splitter::new(Star::new(arms), empty_port());
         Ok(Tree {
             line: Fibre::new(LossyDrop::new(ports, 0), 0),

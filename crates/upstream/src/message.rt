@@ -3,9 +3,9 @@ use field::bounded::{LineNumber, PonId, Sequence, VendorKind};
 use field::number::{Count, SerialNumber};
 use field::octets::Octets;
 
-pub mod laws;
-pub mod read;
-pub mod write;
+mod coded;
+mod read;
+mod write;
 
 #[derive(Clone, Copy)]
 pub enum Upstream {

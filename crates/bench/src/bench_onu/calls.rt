@@ -1,8 +1,8 @@
 ghost use Rattle.std.specs.Prelude.{◌≡◌, [], ◌∷◌};
 ghost use Rattle.onu.specs.declared.event.OwnEvent.TheVariants.{SignalLoss, SignalReturn, PowerLoss};
 ghost use Rattle.field.specs.Number.{capped};
-ghost use Rattle.plant.specs.Lawful.{own, drift, Drifts};
-ghost use Rattle.bench.specs.Bench.{met, new_machine, BenchDoes};
+ghost use Rattle.plant.specs.Lawful.{own, drift};
+ghost use Rattle.bench.specs.Bench.{Meets, new_machine, BenchDoes};
 ghost use Rattle.bench.specs.Benches.{bench_lawful};
 ghost use Rattle.std.proofs.Common.{rules, arith};
 
@@ -13,7 +13,6 @@ use field::number::SerialNumber;
 use onu::event::{Event, OwnEvent};
 use onu::state::{Onu, RoundTrip};
 use plant::burst::Burst;
-use plant::hearing::HearFault;
 use plant::plant::Plant;
 
 impl BenchOnu {
@@ -38,31 +37,35 @@ impl BenchOnu {
         self.machine.onu
     }
 
-    pub fn lose_signal(&mut self)
-        ensures machine { self.new.machine ≡ met (own SignalLoss) self.old.machine }
-        ensures drifts { Drifts (self.old.machine.onu ∷ []) (self.new.machine.onu ∷ []) }
+    // Something that happens to its ONU between cells.
+    #[tactic(auto, using(onu::proofs::Table::happened_keeps))]
+    fn meet(&mut self, event: OwnEvent)
+        ensures { Meets (own event) self.old.machine self.new.machine }
     {
-        self.machine.onu.step(&Event::Own(OwnEvent::SignalLoss));
+        self.machine.onu.step(&Event::Own(event));
+    }
+
+    pub fn lose_signal(&mut self)
+        ensures { Meets (own SignalLoss) self.old.machine self.new.machine }
+    {
+        self.meet(OwnEvent::SignalLoss);
     }
 
     pub fn regain_signal(&mut self)
-        ensures machine { self.new.machine ≡ met (own SignalReturn) self.old.machine }
-        ensures drifts { Drifts (self.old.machine.onu ∷ []) (self.new.machine.onu ∷ []) }
+        ensures { Meets (own SignalReturn) self.old.machine self.new.machine }
     {
-        self.machine.onu.step(&Event::Own(OwnEvent::SignalReturn));
+        self.meet(OwnEvent::SignalReturn);
     }
 
     pub fn lose_power(&mut self)
-        ensures machine { self.new.machine ≡ met (own PowerLoss) self.old.machine }
-        ensures drifts { Drifts (self.old.machine.onu ∷ []) (self.new.machine.onu ∷ []) }
+        ensures { Meets (own PowerLoss) self.old.machine self.new.machine }
     {
-        self.machine.onu.step(&Event::Own(OwnEvent::PowerLoss));
+        self.meet(OwnEvent::PowerLoss);
     }
 
     // Its round trip moves; above 1,000,000 bits counts as that.
     pub fn move_trip(&mut self, bits: u64)
-        ensures machine { self.new.machine ≡ met (drift (capped 1000000 bits)) self.old.machine }
-        ensures drifts { Drifts (self.old.machine.onu ∷ []) (self.new.machine.onu ∷ []) }
+        ensures { Meets (drift (capped 1000000 bits)) self.old.machine self.new.machine }
     {
         self.machine.onu.trip = RoundTrip::saturating(bits);
     }
@@ -83,22 +86,7 @@ impl Plant for BenchOnu {
         1
     }
 
-    fn hear(
-        &mut self,
-        payload: &[u8],
-        first: u64,
-        bursts: &mut Vec<Burst>,
-    ) -> Result<(), HearFault> {
-        let Ok(cell) = Cell::new(payload) else {
-            return Err(HearFault::Length);
-        };
-        if bursts.capacity() - bursts.len() < 27 {
-            return Err(HearFault::Room);
-        }
-        if first >= 14918173765664768 {
-            return Err(HearFault::Late);
-        }
-        self.machine.take_cell(&cell, first, bursts);
-        Ok(())
+    fn accept(&mut self, cell: &Cell, first: u64, bursts: &mut Vec<Burst>) {
+        self.machine.take_cell(cell, first, bursts);
     }
 }

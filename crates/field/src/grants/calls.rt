@@ -16,8 +16,8 @@ impl<const N: usize> Grants<N> {
         ensures { result ≡ grants_of N (map code_of places.entry) }
     {
         let mut codes = [0; N];
-        for k in 0..N {
-            codes[k] = places[k].byte();
+        for (k, grant) in places.iter().enumerate() {
+            codes[k] = u8::from(*grant);
         }
         Grants::from_codes(codes)
     }
@@ -35,8 +35,8 @@ impl<const N: usize> Grants<N> {
     {
         let codes = self.codes;
         let mut places = [Grant::Idle; N];
-        for k in 0..N {
-            places[k] = Grant::from_byte(codes[k]);
+        for (k, code) in codes.iter().enumerate() {
+            places[k] = Grant::from(*code);
         }
         places
     }
@@ -46,7 +46,7 @@ impl<const N: usize> Grants<N> {
         ensures { result ≡ (if nat_lt k N then Some (grant_of (slice_index self.now.codes k)) else None) }
     {
         if k < N {
-            Some(Grant::from_byte(self.codes[k]))
+            Some(Grant::from(self.codes[k]))
         } else {
             None
         }

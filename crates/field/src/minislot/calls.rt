@@ -1,20 +1,14 @@
-ghost use Rattle.std.specs.Prelude.{◌≡◌, ◌+◌, ◌≤◌, ◌&&◌, nat_le};
+ghost use Rattle.std.specs.Prelude.{◌≡◌, ◌+◌, ◌≤◌};
 ghost use Rattle.field.specs.Minislot.{minislot_of};
 
 use super::Minislot;
 
 impl Minislot {
-    fn holds(offset: u8, length: u8) -> bool
-        ensures { result ≡ (nat_le 1 length && nat_le (offset + length) 53) }
-    {
-        1 <= length && u16::from(offset) + u16::from(length) <= 53
-    }
-
     // That part, or none where it is empty or passes the slot's end.
     pub fn new(offset: u8, length: u8) -> Option<Minislot>
         ensures { result ≡ minislot_of offset length }
     {
-        if Self::holds(offset, length) {
+        if 1 <= length && u16::from(offset) + u16::from(length) <= 53 {
             Some(Minislot { offset, length })
         } else {
             None

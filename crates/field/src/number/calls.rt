@@ -1,26 +1,14 @@
-ghost use Rattle.std.specs.Prelude.{◌≡◌, ◌≤◌, min, nat_le};
-ghost use Rattle.field.specs.Number.{up_to, capped};
+ghost use Rattle.std.specs.Prelude.{◌≡◌, ◌≤◌};
+ghost use Rattle.field.specs.Number.{up_to, capped, nought};
 
 use super::Number;
 
 impl<const HIGH: u64> Number<HIGH> {
-    fn holds(value: u64) -> bool
-        ensures { result ≡ nat_le value HIGH }
-    {
-        value <= HIGH
-    }
-
-    fn nearest(value: u64) -> u64
-        ensures { result ≡ min value HIGH }
-    {
-        value.min(HIGH)
-    }
-
     // The value, or none where it is above the greatest.
     pub fn new(value: u64) -> Option<Number<HIGH>>
         ensures { result ≡ up_to HIGH value }
     {
-        if Self::holds(value) {
+        if value <= HIGH {
             Some(Number { value })
         } else {
             None
@@ -32,8 +20,14 @@ impl<const HIGH: u64> Number<HIGH> {
         ensures { result ≡ capped HIGH value }
     {
         Number {
-            value: Self::nearest(value),
+            value: value.min(HIGH),
         }
+    }
+
+    pub fn zero() -> Number<HIGH>
+        ensures { result ≡ nought HIGH }
+    {
+        Number { value: 0 }
     }
 
     pub fn value(self) -> u64

@@ -55,9 +55,8 @@ fn flag(byte: u8, field: Field) -> Result<bool, MessageFault>
 fn delay(high: u8, middle: u8, low: u8) -> Result<Delay, MessageFault>
     ensures { result ≡ delay_field (high * 65536 + middle * 256 + low) }
 {
-    Delay::new(u32::from_be_bytes([0, high, middle, low])).ok_or(MessageFault::OutOfRange(
-        Field::DelayBits,
-    ))
+    let bits = u32::from_be_bytes([0, high, middle, low]);
+    Delay::new(u64::from(bits)).ok_or(MessageFault::OutOfRange(Field::DelayBits))
 }
 
 // A code with its flag.
@@ -254,42 +253,40 @@ fn plain_broadcast(address: u8, message: Downstream) -> Result<Downstream, Messa
     Ok(message)
 }
 
-impl Downstream {
-    // The message, or the first reason why these twelve bytes are none.
-    pub fn read(bytes: &[u8; 12]) -> Result<Downstream, MessageFault>
-        ensures { result ≡ downstream_of bytes.now }
-    {
-        match bytes[1] {
-            0x00 => plain_broadcast(bytes[0], Downstream::NoMessage),
-            0x01 => rx_control(bytes),
-            0x02 => upstream_overhead(bytes),
-            0x03 => ranging_time(bytes),
-            0x04 => serial_number_mask(bytes),
-            0x05 => assign_pon_id(bytes),
-            0x06 => Ok(Downstream::DeactivatePonId {
-                to: addressed(bytes[0])?,
-            }),
-            0x07 => disable_serial_number(bytes),
-            0x08 => Ok(Downstream::NewChurningKeyRequest {
-                pon_id: directed(bytes[0])?,
-            }),
-            0x09 => churning_key_update(bytes),
-            0x0a => grant_allocation(bytes),
-            0x0b => divided_slot_grant(bytes),
-            0x0c => configure_vp_vc(bytes),
-            0x0d => plain_broadcast(bytes[0], Downstream::PhysicalEquipmentError),
-            0x0e => Ok(Downstream::RequestPassword {
-                pon_id: directed(bytes[0])?,
-            }),
-            0x0f => churned_vp(bytes),
-            0x10 => plain_broadcast(bytes[0], Downstream::Popup),
-            0x78..=0x7f => vendor_specific(bytes),
-            0x80 => pst(bytes),
-            0x81 => Ok(Downstream::BerInterval {
-                pon_id: directed(bytes[0])?,
-                frames: word(bytes),
-            }),
-            unknown => Err(MessageFault::UnknownIdentifier(unknown)),
-        }
+// The message, or the first reason why these twelve bytes are none.
+pub(super) fn message(bytes: &[u8; 12]) -> Result<Downstream, MessageFault>
+    ensures { result ≡ downstream_of bytes.now }
+{
+    match bytes[1] {
+        0x00 => plain_broadcast(bytes[0], Downstream::NoMessage),
+        0x01 => rx_control(bytes),
+        0x02 => upstream_overhead(bytes),
+        0x03 => ranging_time(bytes),
+        0x04 => serial_number_mask(bytes),
+        0x05 => assign_pon_id(bytes),
+        0x06 => Ok(Downstream::DeactivatePonId {
+            to: addressed(bytes[0])?,
+        }),
+        0x07 => disable_serial_number(bytes),
+        0x08 => Ok(Downstream::NewChurningKeyRequest {
+            pon_id: directed(bytes[0])?,
+        }),
+        0x09 => churning_key_update(bytes),
+        0x0a => grant_allocation(bytes),
+        0x0b => divided_slot_grant(bytes),
+        0x0c => configure_vp_vc(bytes),
+        0x0d => plain_broadcast(bytes[0], Downstream::PhysicalEquipmentError),
+        0x0e => Ok(Downstream::RequestPassword {
+            pon_id: directed(bytes[0])?,
+        }),
+        0x0f => churned_vp(bytes),
+        0x10 => plain_broadcast(bytes[0], Downstream::Popup),
+        0x78..=0x7f => vendor_specific(bytes),
+        0x80 => pst(bytes),
+        0x81 => Ok(Downstream::BerInterval {
+            pon_id: directed(bytes[0])?,
+            frames: word(bytes),
+        }),
+        unknown => Err(MessageFault::UnknownIdentifier(unknown)),
     }
 }

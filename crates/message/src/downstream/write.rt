@@ -1,6 +1,6 @@
 // The twelve bytes of a message to the ONUs; unspecified bytes are 0.
 ghost use Rattle.std.specs.Prelude.{◌≡◌};
-ghost use Rattle.message.specs.Downstream.{address_byte, flag_byte, access_bytes, rx_bytes, overhead_bytes, slot_bytes, path_bytes, vendor_bytes, delay_bytes, bytes_of};
+ghost use Rattle.message.specs.Downstream.{address_byte, access_bytes, rx_bytes, overhead_bytes, slot_bytes, path_bytes, vendor_bytes, delay_bytes, bytes_of};
 
 use crate::downstream::{Access, Address, Allocation, Downstream, RxPart};
 use field::bounded::{Guard, PonId, VendorKind};
@@ -54,8 +54,8 @@ fn upstream_overhead(guard: Guard, overhead: Octets<3>, delay: Delay) -> [u8; 12
     ensures { result ≡ overhead_bytes guard overhead delay }
 {
     let b = overhead.bytes();
-    let d = delay.bits().to_be_bytes();
-    let given = u8::from(delay.bits() != 0);
+    let d = delay.value().to_be_bytes();
+    let given = u8::from(delay.value() != 0);
     [
         ALL,
         0x02,
@@ -66,17 +66,17 @@ fn upstream_overhead(guard: Guard, overhead: Octets<3>, delay: Delay) -> [u8; 12
         0,
         0,
         given,
-        d[1],
-        d[2],
-        d[3],
+        d[5],
+        d[6],
+        d[7],
     ]
 }
 
 fn ranging_time(pon_id: PonId, delay: Delay) -> [u8; 12]
     ensures { result ≡ delay_bytes pon_id delay }
 {
-    let d = delay.bits().to_be_bytes();
-    plain(pon_id.value(), 0x03, [d[1], d[2], d[3], 0])
+    let d = delay.value().to_be_bytes();
+    plain(pon_id.value(), 0x03, [d[5], d[6], d[7], 0])
 }
 
 fn divided_slot_grant(pon_id: PonId, slot: Allocation, part: Minislot, service: u8) -> [u8; 12]
@@ -140,90 +140,88 @@ fn vendor_specific(to: Address, kind: VendorKind, body: Octets<10>) -> [u8; 12]
     ]
 }
 
-impl Downstream {
-    pub fn write(self) -> [u8; 12]
-        ensures { result ≡ bytes_of self }
-    {
-        match self {
-            Downstream::NoMessage => plain(ALL, 0x00, [0; 4]),
-            Downstream::UpstreamRxControl { part } => rx_control(part),
-            Downstream::UpstreamOverhead {
-                guard,
-                overhead,
-                delay,
-            } => upstream_overhead(guard, overhead, delay),
-            Downstream::RangingTime { pon_id, delay } => ranging_time(pon_id, delay),
-            Downstream::SerialNumberMask { bits, serial } => with_serial(
-                ALL,
-                0x04,
-                bits.value(),
-                serial,
-            ),
-            Downstream::AssignPonId { pon_id, serial } => with_serial(
-                ALL,
-                0x05,
+pub(super) fn bytes(message: Downstream) -> [u8; 12]
+    ensures { result ≡ bytes_of message }
+{
+    match message {
+        Downstream::NoMessage => plain(ALL, 0x00, [0; 4]),
+        Downstream::UpstreamRxControl { part } => rx_control(part),
+        Downstream::UpstreamOverhead {
+            guard,
+            overhead,
+            delay,
+        } => upstream_overhead(guard, overhead, delay),
+        Downstream::RangingTime { pon_id, delay } => ranging_time(pon_id, delay),
+        Downstream::SerialNumberMask { bits, serial } => with_serial(
+            ALL,
+            0x04,
+            bits.value(),
+            serial,
+        ),
+        Downstream::AssignPonId { pon_id, serial } => with_serial(
+            ALL,
+            0x05,
+            pon_id.value(),
+            serial,
+        ),
+        Downstream::DeactivatePonId { to } => plain(to.byte(), 0x06, [0; 4]),
+        Downstream::DisableSerialNumber { access: allowed } => access(allowed),
+        Downstream::NewChurningKeyRequest { pon_id } => plain(pon_id.value(), 0x08, [0; 4]),
+        Downstream::ChurningKeyUpdate { pon_id, count } => plain(
+            pon_id.value(),
+            0x09,
+            [count.value(), 0, 0, 0],
+        ),
+        Downstream::GrantAllocation {
+            pon_id,
+            grant,
+            ploam,
+        } => {
+            let fields = [
+                grant.code.value(),
+                u8::from(grant.active),
+                ploam.code.value(),
+                u8::from(ploam.active),
+            ];
+            plain(pon_id.value(), 0x0a, fields)
+        }
+        Downstream::DividedSlotGrant {
+            pon_id,
+            slot,
+            part,
+            service,
+        } => divided_slot_grant(pon_id, slot, part, service),
+        Downstream::ConfigureVpVc {
+            pon_id,
+            active,
+            header,
+            mask,
+        } => configure_vp_vc(pon_id, active, header, mask),
+        Downstream::PhysicalEquipmentError => plain(ALL, 0x0d, [0; 4]),
+        Downstream::RequestPassword { pon_id } => plain(pon_id.value(), 0x0e, [0; 4]),
+        Downstream::ChurnedVp {
+            pon_id,
+            churned,
+            vpi,
+        } => {
+            let path = vpi.value();
+            plain(
                 pon_id.value(),
-                serial,
-            ),
-            Downstream::DeactivatePonId { to } => plain(to.byte(), 0x06, [0; 4]),
-            Downstream::DisableSerialNumber { access: allowed } => access(allowed),
-            Downstream::NewChurningKeyRequest { pon_id } => plain(pon_id.value(), 0x08, [0; 4]),
-            Downstream::ChurningKeyUpdate { pon_id, count } => plain(
-                pon_id.value(),
-                0x09,
-                [count.value(), 0, 0, 0],
-            ),
-            Downstream::GrantAllocation {
-                pon_id,
-                grant,
-                ploam,
-            } => {
-                let fields = [
-                    grant.code.value(),
-                    u8::from(grant.active),
-                    ploam.code.value(),
-                    u8::from(ploam.active),
-                ];
-                plain(pon_id.value(), 0x0a, fields)
-            }
-            Downstream::DividedSlotGrant {
-                pon_id,
-                slot,
-                part,
-                service,
-            } => divided_slot_grant(pon_id, slot, part, service),
-            Downstream::ConfigureVpVc {
-                pon_id,
-                active,
-                header,
-                mask,
-            } => configure_vp_vc(pon_id, active, header, mask),
-            Downstream::PhysicalEquipmentError => plain(ALL, 0x0d, [0; 4]),
-            Downstream::RequestPassword { pon_id } => plain(pon_id.value(), 0x0e, [0; 4]),
-            Downstream::ChurnedVp {
-                pon_id,
-                churned,
-                vpi,
-            } => {
-                let path = vpi.value();
-                plain(
-                    pon_id.value(),
-                    0x0f,
-                    [
-                        u8::from(churned),
-                        (path / 16) as u8,
-                        (path % 16 * 16) as u8,
-                        0,
-                    ],
-                )
-            }
-            Downstream::Popup => plain(ALL, 0x10, [0; 4]),
-            Downstream::VendorSpecific { to, kind, body } => vendor_specific(to, kind, body),
-            Downstream::Pst { line, k1, k2 } => plain(ALL, 0x80, [line.value(), k1, k2, 0]),
-            Downstream::BerInterval { pon_id, frames } => {
-                let f = frames.value().to_be_bytes();
-                plain(pon_id.value(), 0x81, [f[4], f[5], f[6], f[7]])
-            }
+                0x0f,
+                [
+                    u8::from(churned),
+                    (path / 16) as u8,
+                    (path % 16 * 16) as u8,
+                    0,
+                ],
+            )
+        }
+        Downstream::Popup => plain(ALL, 0x10, [0; 4]),
+        Downstream::VendorSpecific { to, kind, body } => vendor_specific(to, kind, body),
+        Downstream::Pst { line, k1, k2 } => plain(ALL, 0x80, [line.value(), k1, k2, 0]),
+        Downstream::BerInterval { pon_id, frames } => {
+            let f = frames.value().to_be_bytes();
+            plain(pon_id.value(), 0x81, [f[4], f[5], f[6], f[7]])
         }
     }
 }

@@ -4,6 +4,7 @@ ghost use Rattle.payload.specs.Cell.{assembled, cell_bytes, written, after};
 use crate::contents::Contents;
 use cell::fault::CellFault;
 use field::check::{check_byte, check_byte_and_zero};
+use field::coded::Coded;
 
 // Writes bytes from a place up to an end; what stands before them stays.
 pub(crate) fn put(out: &mut [u8], at: usize, end: usize, bytes: &[u8])

@@ -24,10 +24,7 @@ fn join(first: Grants<27>, second: Grants<27>) -> Grants<53>
 fn read_place(bytes: &[u8], place: Place) -> Result<Contents, (Place, CellFault)>
     ensures { result ≡ in_place place bytes.now }
 {
-    match read_cell(bytes) {
-        Ok(contents) => Ok(contents),
-        Err(fault) => Err((place, fault)),
-    }
+    read_cell(bytes).map_err(|fault| (place, fault))
 }
 
 // The contents of a frame, or the first fault; the frame bits and the 54th grant are not looked at.

@@ -30,7 +30,7 @@ fn second_cell(frame: &Frame) -> Contents
     let codes = frame.grants.codes();
     let mut back = [0; 27];
     put(&mut back, 0, 26, &codes[27..53]);
-    put(&mut back, 26, 27, &[Grant::Idle.byte()]);
+    put(&mut back, 26, 27, &[u8::from(Grant::Idle)]);
     Contents {
         first: false,
         grants: Grants::from_codes(back),

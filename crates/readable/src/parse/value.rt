@@ -1,13 +1,20 @@
-// One field of a line, taken from the words that are left.
+// What a field can hold, as it stands after the field's key.
 use crate::hex;
 use crate::key::Key;
+use crate::kind::Kind;
 use crate::wanted::Wanted;
-use field::bounded::{Bounded, PonId};
-use field::delay::Delay;
-use field::number::{Number, SerialNumber};
+use field::bounded::Bounded;
+use field::number::Number;
 use field::octets::Octets;
 use message::downstream::Address;
-use std::str::SplitWhitespace;
+
+pub(crate) trait Value: Sized {
+    // What should stand there.
+    fn wanted(key: Key) -> Wanted;
+
+    // The value of a text, if it is one.
+    fn read(text: &str) -> Option<Self>;
+}
 
 // A number as it is printed: no sign and no zero in front.
 pub(crate) fn decimal(text: &str) -> Option<u64> {
@@ -22,92 +29,90 @@ pub(crate) fn small(text: &str) -> Option<u8> {
     u8::try_from(decimal(text)?).ok()
 }
 
-// What stands after the key, if the next word begins with it.
-pub(crate) fn text<'a>(words: &mut SplitWhitespace<'a>, key: Key) -> Option<&'a str> {
-    words.next()?.strip_prefix(key.name())?.strip_prefix('=')
-}
+impl Value for bool {
+    fn wanted(key: Key) -> Wanted {
+        Wanted::Flag(key)
+    }
 
-pub(crate) fn flag(words: &mut SplitWhitespace<'_>, key: Key) -> Result<bool, Wanted> {
-    match text(words, key) {
-        Some("0") => Ok(false),
-        Some("1") => Ok(true),
-        _ => Err(Wanted::Flag(key)),
+    fn read(text: &str) -> Option<bool> {
+        match text {
+            "0" => Some(false),
+            "1" => Some(true),
+            _ => None,
+        }
     }
 }
 
-fn bounded_text<const LOW: u8, const HIGH: u8>(text: &str) -> Option<Bounded<LOW, HIGH>> {
-    Bounded::new(small(text)?)
+impl<const LOW: u8, const HIGH: u8> Value for Bounded<LOW, HIGH> {
+    fn wanted(key: Key) -> Wanted {
+        Wanted::Number {
+            key,
+            low: u64::from(LOW),
+            high: u64::from(HIGH),
+        }
+    }
+
+    fn read(text: &str) -> Option<Bounded<LOW, HIGH>> {
+        Bounded::new(small(text)?)
+    }
 }
 
-pub(crate) fn bounded<const LOW: u8, const HIGH: u8>(
-    words: &mut SplitWhitespace<'_>,
-    key: Key,
-) -> Result<Bounded<LOW, HIGH>, Wanted> {
-    let wanted = Wanted::Number {
-        key,
-        low: u64::from(LOW),
-        high: u64::from(HIGH),
-    };
-    bounded_text(text(words, key).ok_or(wanted)?).ok_or(wanted)
+impl<const HIGH: u64> Value for Number<HIGH> {
+    fn wanted(key: Key) -> Wanted {
+        Wanted::Number {
+            key,
+            low: 0,
+            high: HIGH,
+        }
+    }
+
+    fn read(text: &str) -> Option<Number<HIGH>> {
+        Number::new(decimal(text)?)
+    }
 }
 
-pub(crate) fn number<const HIGH: u64>(
-    words: &mut SplitWhitespace<'_>,
-    key: Key,
-) -> Result<Number<HIGH>, Wanted> {
-    let wanted = Wanted::Number {
-        key,
-        low: 0,
-        high: HIGH,
-    };
-    let value = decimal(text(words, key).ok_or(wanted)?).ok_or(wanted)?;
-    Number::new(value).ok_or(wanted)
+impl<const N: usize> Value for [u8; N] {
+    fn wanted(key: Key) -> Wanted {
+        Wanted::Digits {
+            key,
+            count: N.saturating_mul(2),
+        }
+    }
+
+    fn read(text: &str) -> Option<[u8; N]> {
+        hex::octets(text)
+    }
 }
 
-pub(crate) fn delay(words: &mut SplitWhitespace<'_>) -> Result<Delay, Wanted> {
-    let wanted = Wanted::Number {
-        key: Key::Delay,
-        low: 0,
-        high: 32000,
-    };
-    let value = decimal(text(words, Key::Delay).ok_or(wanted)?).ok_or(wanted)?;
-    let Ok(bits) = u32::try_from(value) else {
-        return Err(wanted);
-    };
-    Delay::new(bits).ok_or(wanted)
+impl<const N: usize> Value for Octets<N> {
+    fn wanted(key: Key) -> Wanted {
+        <[u8; N]>::wanted(key)
+    }
+
+    fn read(text: &str) -> Option<Octets<N>> {
+        Some(Octets::new(hex::octets(text)?))
+    }
 }
 
-fn bytes<const N: usize>(words: &mut SplitWhitespace<'_>, key: Key) -> Result<[u8; N], Wanted> {
-    let wanted = Wanted::Digits {
-        key,
-        count: N.saturating_mul(2),
-    };
-    hex::octets(text(words, key).ok_or(wanted)?).ok_or(wanted)
+impl Value for Address {
+    fn wanted(_key: Key) -> Wanted {
+        Wanted::Address
+    }
+
+    fn read(text: &str) -> Option<Address> {
+        match text {
+            "all" => Some(Address::All),
+            one => Value::read(one).map(Address::One),
+        }
+    }
 }
 
-pub(crate) fn octets<const N: usize>(
-    words: &mut SplitWhitespace<'_>,
-    key: Key,
-) -> Result<Octets<N>, Wanted> {
-    Ok(Octets::new(bytes(words, key)?))
-}
+impl Value for Kind {
+    fn wanted(_key: Key) -> Wanted {
+        Wanted::MessageName
+    }
 
-pub(crate) fn byte(words: &mut SplitWhitespace<'_>, key: Key) -> Result<u8, Wanted> {
-    let [byte]: [u8; 1] = bytes(words, key)?;
-    Ok(byte)
-}
-
-pub(crate) fn serial(words: &mut SplitWhitespace<'_>) -> Result<SerialNumber, Wanted> {
-    Ok(SerialNumber::saturating(u64::from_be_bytes(bytes(words, Key::Serial)?)))
-}
-
-pub(crate) fn pon_id(words: &mut SplitWhitespace<'_>) -> Result<PonId, Wanted> {
-    bounded(words, Key::PonId)
-}
-
-pub(crate) fn address(words: &mut SplitWhitespace<'_>) -> Result<Address, Wanted> {
-    match text(words, Key::PonId).ok_or(Wanted::Address)? {
-        "all" => Ok(Address::All),
-        one => Ok(Address::One(bounded_text(one).ok_or(Wanted::Address)?)),
+    fn read(text: &str) -> Option<Kind> {
+        Kind::named(text)
     }
 }

@@ -1,226 +1,184 @@
 // The fields of a message to the ONUs.
-ghost use Rattle.std.specs.Prelude.{◌≡◌, [], ◌∷◌, string_bytes, OnOk};
-ghost use Rattle.message.specs.declared.downstream.Downstream.TheVariants as sent;
-ghost use Rattle.readable.specs.declared.key.Key.TheVariants.{PonId as PonIdKey};
-ghost use Rattle.readable.specs.Shown.{with_fields, number as numberField, serial as serialField, access as accessFields, rx_part as rxFields, fields_of};
+ghost use Rattle.std.specs.Prelude.{Some};
+ghost use Rattle.readable.specs.Shown.{fields_text, fields_of, access as access_fields, rx_part};
 
+use crate::hex::Digits;
 use crate::key::Key;
-use crate::show::value::{address, delay, flag, number, octets, pon_id, serial, small, text};
-use field::bounded::{Guard, LineNumber, PonId, VendorKind};
-use field::delay::Delay;
-use field::minislot::Minislot;
-use field::number::{SerialNumber, Vpi};
-use field::octets::Octets;
-use message::downstream::{Access, Address, Allocation, Downstream, RxPart};
-use std::alloc::AllocError;
+use crate::show::value::{Fields, Keyed, Shown};
+use message::downstream::{Access, Downstream, RxPart};
+use std::fmt;
 
-fn rx_control(out: &mut String, part: RxPart) -> Result<(), AllocError>
-    ensures { OnOk result (string_bytes out.new ≡ with_fields (string_bytes out.old) (rxFields part)) }
-{
-    match part {
-        RxPart::First(pattern) => {
-            small(out, Key::Part, 0)?;
-            octets(out, Key::Bytes, &pattern.bytes())
-        }
-        RxPart::Second(pattern) => {
-            small(out, Key::Part, 1)?;
-            octets(out, Key::Bytes, &pattern.bytes())
-        }
-    }
-}
+impl fmt::Display for Fields<RxPart> {
+    ghost output = { λ part. Some (fields_text (rx_part part.0)) };
 
-fn upstream_overhead(
-    out: &mut String,
-    guard: Guard,
-    overhead: Octets<3>,
-    delay_after: Delay,
-) -> Result<(), AllocError>
-    ensures { OnOk result (string_bytes out.new ≡ with_fields (string_bytes out.old) (fields_of (sent.UpstreamOverhead guard overhead delay_after))) }
-{
-    small(out, Key::Guard, guard.value())?;
-    octets(out, Key::Overhead, &overhead.bytes())?;
-    delay(out, delay_after)
-}
-
-// A small number and a serial number.
-fn with_serial(out: &mut String, key: Key, value: u8, of: SerialNumber) -> Result<(), AllocError>
-    ensures { OnOk result (string_bytes out.new ≡ with_fields (string_bytes out.old) (numberField key value ∷ serialField of.value ∷ [])) }
-{
-    small(out, key, value)?;
-    serial(out, of)
-}
-
-fn disable_serial_number(out: &mut String, access: Access) -> Result<(), AllocError>
-    ensures { OnOk result (string_bytes out.new ≡ with_fields (string_bytes out.old) (accessFields access)) }
-{
-    match access {
-        Access::Deny(of) => {
-            text(out, Key::Access, "deny")?;
-            serial(out, of)
-        }
-        Access::AllowAll => text(out, Key::Access, "allow_all"),
-        Access::Allow(of) => {
-            text(out, Key::Access, "allow")?;
-            serial(out, of)
+    fn fmt<W: fmt::Write>(&self, f: &mut fmt::Formatter<W>) -> fmt::Result {
+        match self.0 {
+            RxPart::First(pattern) => write!(
+                f,
+                "{}{}",
+                Keyed(Key::Part, 0u8),
+                Keyed(Key::Bytes, Shown(pattern))
+            ),
+            RxPart::Second(pattern) => write!(
+                f,
+                "{}{}",
+                Keyed(Key::Part, 1u8),
+                Keyed(Key::Bytes, Shown(pattern))
+            ),
         }
     }
 }
 
-// A PON_ID and a number.
-fn with_number(out: &mut String, to: PonId, key: Key, value: u64) -> Result<(), AllocError>
-    ensures { OnOk result (string_bytes out.new ≡ with_fields (string_bytes out.old) (numberField PonIdKey to.value ∷ numberField key value ∷ [])) }
-{
-    pon_id(out, to)?;
-    number(out, key, value)
+impl fmt::Display for Fields<Access> {
+    ghost output = { λ access. Some (fields_text (access_fields access.0)) };
+
+    fn fmt<W: fmt::Write>(&self, f: &mut fmt::Formatter<W>) -> fmt::Result {
+        match self.0 {
+            Access::Deny(of) => write!(
+                f,
+                "{}{}",
+                Keyed(Key::Access, "deny"),
+                Keyed(Key::Serial, Shown(of))
+            ),
+            Access::AllowAll => write!(f, "{}", Keyed(Key::Access, "allow_all")),
+            Access::Allow(of) => write!(
+                f,
+                "{}{}",
+                Keyed(Key::Access, "allow"),
+                Keyed(Key::Serial, Shown(of))
+            ),
+        }
+    }
 }
 
-fn grant_allocation(
-    out: &mut String,
-    to: PonId,
-    grant: Allocation,
-    ploam: Allocation,
-) -> Result<(), AllocError>
-    ensures { OnOk result (string_bytes out.new ≡ with_fields (string_bytes out.old) (fields_of (sent.GrantAllocation to grant ploam))) }
-{
-    pon_id(out, to)?;
-    small(out, Key::Data, grant.code.value())?;
-    flag(out, Key::DataActive, grant.active)?;
-    small(out, Key::Ploam, ploam.code.value())?;
-    flag(out, Key::PloamActive, ploam.active)
-}
+impl fmt::Display for Fields<Downstream> {
+    ghost output = { λ message. Some (fields_text (fields_of message.0)) };
 
-fn divided_slot_grant(
-    out: &mut String,
-    to: PonId,
-    slot: Allocation,
-    part: Minislot,
-    service: u8,
-) -> Result<(), AllocError>
-    ensures { OnOk result (string_bytes out.new ≡ with_fields (string_bytes out.old) (fields_of (sent.DividedSlotGrant to slot part service))) }
-{
-    pon_id(out, to)?;
-    flag(out, Key::Active, slot.active)?;
-    small(out, Key::Code, slot.code.value())?;
-    small(out, Key::Offset, part.offset())?;
-    small(out, Key::Length, part.length())?;
-    small(out, Key::Service, service)
-}
-
-fn configure_vp_vc(
-    out: &mut String,
-    to: PonId,
-    active: bool,
-    header: Octets<4>,
-    mask: Octets<4>,
-) -> Result<(), AllocError>
-    ensures { OnOk result (string_bytes out.new ≡ with_fields (string_bytes out.old) (fields_of (sent.ConfigureVpVc to active header mask))) }
-{
-    pon_id(out, to)?;
-    flag(out, Key::Active, active)?;
-    octets(out, Key::Header, &header.bytes())?;
-    octets(out, Key::Mask, &mask.bytes())
-}
-
-fn churned_vp(out: &mut String, to: PonId, churned: bool, vpi: Vpi) -> Result<(), AllocError>
-    ensures { OnOk result (string_bytes out.new ≡ with_fields (string_bytes out.old) (fields_of (sent.ChurnedVp to churned vpi))) }
-{
-    pon_id(out, to)?;
-    flag(out, Key::Churned, churned)?;
-    number(out, Key::Vpi, vpi.value())
-}
-
-fn vendor_specific(
-    out: &mut String,
-    to: Address,
-    kind: VendorKind,
-    body: Octets<10>,
-) -> Result<(), AllocError>
-    ensures { OnOk result (string_bytes out.new ≡ with_fields (string_bytes out.old) (fields_of (sent.VendorSpecific to kind body))) }
-{
-    address(out, to)?;
-    small(out, Key::Kind, kind.value())?;
-    octets(out, Key::Bytes, &body.bytes())
-}
-
-fn pst(out: &mut String, line: LineNumber, k1: u8, k2: u8) -> Result<(), AllocError>
-    ensures { OnOk result (string_bytes out.new ≡ with_fields (string_bytes out.old) (fields_of (sent.Pst line k1 k2))) }
-{
-    small(out, Key::Line, line.value())?;
-    octets(out, Key::K1, &[k1])?;
-    octets(out, Key::K2, &[k2])
-}
-
-// Appends each field of the message after a blank.
-pub(crate) fn fields(out: &mut String, message: Downstream) -> Result<(), AllocError>
-    ensures { OnOk result (string_bytes out.new ≡ with_fields (string_bytes out.old) (fields_of message)) }
-{
-    match message {
-        Downstream::NoMessage => Ok(()),
-        Downstream::UpstreamRxControl { part } => rx_control(out, part),
-        Downstream::UpstreamOverhead {
-            guard,
-            overhead,
-            delay,
-        } => upstream_overhead(out, guard, overhead, delay),
-        Downstream::RangingTime { pon_id, delay } => with_number(
-            out,
-            pon_id,
-            Key::Delay,
-            u64::from(delay.bits()),
-        ),
-        Downstream::SerialNumberMask { bits, serial } => with_serial(
-            out,
-            Key::Bits,
-            bits.value(),
-            serial,
-        ),
-        Downstream::AssignPonId { pon_id, serial } => with_serial(
-            out,
-            Key::PonId,
-            pon_id.value(),
-            serial,
-        ),
-        Downstream::DeactivatePonId { to } => address(out, to),
-        Downstream::DisableSerialNumber { access } => disable_serial_number(out, access),
-        Downstream::NewChurningKeyRequest { pon_id: to } => pon_id(out, to),
-        Downstream::ChurningKeyUpdate { pon_id, count } => with_number(
-            out,
-            pon_id,
-            Key::Count,
-            u64::from(count.value()),
-        ),
-        Downstream::GrantAllocation {
-            pon_id,
-            grant,
-            ploam,
-        } => grant_allocation(out, pon_id, grant, ploam),
-        Downstream::DividedSlotGrant {
-            pon_id,
-            slot,
-            part,
-            service,
-        } => divided_slot_grant(out, pon_id, slot, part, service),
-        Downstream::ConfigureVpVc {
-            pon_id,
-            active,
-            header,
-            mask,
-        } => configure_vp_vc(out, pon_id, active, header, mask),
-        Downstream::PhysicalEquipmentError => Ok(()),
-        Downstream::RequestPassword { pon_id: to } => pon_id(out, to),
-        Downstream::ChurnedVp {
-            pon_id,
-            churned,
-            vpi,
-        } => churned_vp(out, pon_id, churned, vpi),
-        Downstream::Popup => Ok(()),
-        Downstream::VendorSpecific { to, kind, body } => vendor_specific(out, to, kind, body),
-        Downstream::Pst { line, k1, k2 } => pst(out, line, k1, k2),
-        Downstream::BerInterval { pon_id, frames } => with_number(
-            out,
-            pon_id,
-            Key::Frames,
-            frames.value(),
-        ),
+    fn fmt<W: fmt::Write>(&self, f: &mut fmt::Formatter<W>) -> fmt::Result {
+        match self.0 {
+            Downstream::NoMessage => Ok(()),
+            Downstream::PhysicalEquipmentError => Ok(()),
+            Downstream::Popup => Ok(()),
+            Downstream::UpstreamRxControl { part } => write!(f, "{}", Fields(part)),
+            Downstream::UpstreamOverhead {
+                guard,
+                overhead,
+                delay,
+            } => write!(
+                f,
+                "{}{}{}",
+                Keyed(Key::Guard, guard.value()),
+                Keyed(Key::Overhead, Shown(overhead)),
+                Keyed(Key::Delay, delay.value())
+            ),
+            Downstream::RangingTime { pon_id, delay } => write!(
+                f,
+                "{}{}",
+                Keyed(Key::PonId, pon_id.value()),
+                Keyed(Key::Delay, delay.value())
+            ),
+            Downstream::SerialNumberMask { bits, serial } => write!(
+                f,
+                "{}{}",
+                Keyed(Key::Bits, bits.value()),
+                Keyed(Key::Serial, Shown(serial))
+            ),
+            Downstream::AssignPonId { pon_id, serial } => write!(
+                f,
+                "{}{}",
+                Keyed(Key::PonId, pon_id.value()),
+                Keyed(Key::Serial, Shown(serial))
+            ),
+            Downstream::DeactivatePonId { to } => write!(f, "{}", Keyed(Key::PonId, Shown(to))),
+            Downstream::DisableSerialNumber { access } => write!(f, "{}", Fields(access)),
+            Downstream::NewChurningKeyRequest { pon_id } => write!(
+                f,
+                "{}",
+                Keyed(Key::PonId, pon_id.value())
+            ),
+            Downstream::RequestPassword { pon_id } => write!(
+                f,
+                "{}",
+                Keyed(Key::PonId, pon_id.value())
+            ),
+            Downstream::ChurningKeyUpdate { pon_id, count } => write!(
+                f,
+                "{}{}",
+                Keyed(Key::PonId, pon_id.value()),
+                Keyed(Key::Count, count.value())
+            ),
+            Downstream::GrantAllocation {
+                pon_id,
+                grant,
+                ploam,
+            } => write!(
+                f,
+                "{}{}{}{}{}",
+                Keyed(Key::PonId, pon_id.value()),
+                Keyed(Key::Data, grant.code.value()),
+                Keyed(Key::DataActive, Shown(grant.active)),
+                Keyed(Key::Ploam, ploam.code.value()),
+                Keyed(Key::PloamActive, Shown(ploam.active))
+            ),
+            Downstream::DividedSlotGrant {
+                pon_id,
+                slot,
+                part,
+                service,
+            } => write!(
+                f,
+                "{}{}{}{}{}{}",
+                Keyed(Key::PonId, pon_id.value()),
+                Keyed(Key::Active, Shown(slot.active)),
+                Keyed(Key::Code, slot.code.value()),
+                Keyed(Key::Offset, part.offset()),
+                Keyed(Key::Length, part.length()),
+                Keyed(Key::Service, service)
+            ),
+            Downstream::ConfigureVpVc {
+                pon_id,
+                active,
+                header,
+                mask,
+            } => write!(
+                f,
+                "{}{}{}{}",
+                Keyed(Key::PonId, pon_id.value()),
+                Keyed(Key::Active, Shown(active)),
+                Keyed(Key::Header, Shown(header)),
+                Keyed(Key::Mask, Shown(mask))
+            ),
+            Downstream::ChurnedVp {
+                pon_id,
+                churned,
+                vpi,
+            } => write!(
+                f,
+                "{}{}{}",
+                Keyed(Key::PonId, pon_id.value()),
+                Keyed(Key::Churned, Shown(churned)),
+                Keyed(Key::Vpi, vpi.value())
+            ),
+            Downstream::VendorSpecific { to, kind, body } => write!(
+                f,
+                "{}{}{}",
+                Keyed(Key::PonId, Shown(to)),
+                Keyed(Key::Kind, kind.value()),
+                Keyed(Key::Bytes, Shown(body))
+            ),
+            Downstream::Pst { line, k1, k2 } => write!(
+                f,
+                "{}{}{}",
+                Keyed(Key::Line, line.value()),
+                Keyed(Key::K1, Digits(&[k1])),
+                Keyed(Key::K2, Digits(&[k2]))
+            ),
+            Downstream::BerInterval { pon_id, frames } => write!(
+                f,
+                "{}{}",
+                Keyed(Key::PonId, pon_id.value()),
+                Keyed(Key::Frames, frames.value())
+            ),
+        }
     }
 }

@@ -1,35 +1,27 @@
-// Faults of cells and frames as text, appended to a line.
-ghost use Rattle.std.specs.Prelude.{◌≡◌, string_bytes, OnOk};
-ghost use Rattle.readable.specs.Fault.{named as with_name, with_cause, with_cell_fault, place_name, with_frame_fault};
+// Faults of cells and frames as text.
+ghost use Rattle.std.specs.Prelude.{◌≡◌, Some, string_bytes, OnOk};
+ghost use Rattle.readable.specs.Fault.{cell_fault_text, frame_fault_text, with_cell_fault, with_frame_fault};
 
-use crate::show::message_fault;
-use crate::show::value::decimal;
+use crate::show::value::Shown;
 use cell::fault::{CellFault, FrameFault, Place};
 use std::alloc::AllocError;
 use std::fmt;
 
 // Appending text to a `String` fails only for want of memory.
 pub fn appended(res: fmt::Result) -> Result<(), AllocError> {
-    match res {
-        Ok(()) => Ok(()),
-        Err(_) => Err(AllocError),
-    }
+    res.map_err(|_| AllocError)
 }
 
-fn named(out: &mut String, name: &str, count: u64) -> Result<(), AllocError>
-    ensures { OnOk result (string_bytes out.new ≡ with_name (string_bytes out.old) name.now count) }
-{
-    out.push_str(name)?;
-    decimal(out, count)
-}
+impl fmt::Display for Shown<CellFault> {
+    ghost output = { λ fault. Some (cell_fault_text fault.0) };
 
-fn cause(out: &mut String, fault: CellFault) -> Result<(), AllocError>
-    ensures { OnOk result (string_bytes out.new ≡ with_cause (string_bytes out.old) fault) }
-{
-    match fault {
-        CellFault::Length => out.push_str("length"),
-        CellFault::Check(check) => named(out, "group=", u64::from(check.group())),
-        CellFault::Message(why) => message_fault(out, why),
+    fn fmt<W: fmt::Write>(&self, f: &mut fmt::Formatter<W>) -> fmt::Result {
+        write!(f, "fault {} ", self.0.number())?;
+        match self.0 {
+            CellFault::Length => f.write_str("length"),
+            CellFault::Check(check) => write!(f, "group={}", check.group()),
+            CellFault::Message(why) => write!(f, "{}", Shown(why)),
+        }
     }
 }
 
@@ -37,17 +29,24 @@ fn cause(out: &mut String, fault: CellFault) -> Result<(), AllocError>
 pub fn cell(out: &mut String, fault: CellFault) -> Result<(), AllocError>
     ensures { OnOk result (string_bytes out.new ≡ with_cell_fault (string_bytes out.old) fault) }
 {
-    named(out, "fault ", u64::from(fault.number()))?;
-    out.push_str(" ")?;
-    cause(out, fault)
+    write!(out, "{}", Shown(fault))
 }
 
-fn place_text(place: Place) -> &'static str
-    ensures { result.now ≡ place_name place }
-{
-    match place {
-        Place::First => "cell=1 ",
-        Place::Second => "cell=2 ",
+impl fmt::Display for Shown<FrameFault> {
+    ghost output = { λ fault. Some (frame_fault_text fault.0) };
+
+    fn fmt<W: fmt::Write>(&self, f: &mut fmt::Formatter<W>) -> fmt::Result {
+        match self.0 {
+            FrameFault::Length => write!(f, "{}", Shown(CellFault::Length)),
+            FrameFault::Cell {
+                cell: Place::First,
+                fault,
+            } => write!(f, "cell=1 {}", Shown(fault)),
+            FrameFault::Cell {
+                cell: Place::Second,
+                fault,
+            } => write!(f, "cell=2 {}", Shown(fault)),
+        }
     }
 }
 
@@ -55,11 +54,5 @@ fn place_text(place: Place) -> &'static str
 pub fn frame(out: &mut String, fault: FrameFault) -> Result<(), AllocError>
     ensures { OnOk result (string_bytes out.new ≡ with_frame_fault (string_bytes out.old) fault) }
 {
-    match fault {
-        FrameFault::Length => cell(out, CellFault::Length),
-        FrameFault::Cell { cell: place, fault } => {
-            out.push_str(place_text(place))?;
-            cell(out, fault)
-        }
-    }
+    write!(out, "{}", Shown(fault))
 }

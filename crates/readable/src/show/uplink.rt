@@ -1,17 +1,15 @@
 // A message from an ONU, and why there is none.
-ghost use Rattle.std.specs.Prelude.{◌≡◌, [], ◌∷◌, string_bytes, OnOk};
-ghost use Rattle.upstream.specs.declared.message.Upstream.TheVariants as sent;
-ghost use Rattle.readable.specs.Shown.{with_fields, octets as octetsField};
-ghost use Rattle.readable.specs.Upstream.{upstream_name, upstream_fields, upstream_key, with_upstream, with_upstream_fault, any_source as sourceField, source as source_of};
+ghost use Rattle.std.specs.Prelude.{◌≡◌, Some, string_bytes, OnOk};
+ghost use Rattle.readable.specs.Shown.{fields_text};
+ghost use Rattle.readable.specs.Upstream.{upstream_name, upstream_fields, upstream_text, upstream_fault_text, with_upstream, with_upstream_fault, source_number as number_of_source};
 
+use crate::hex::Digits;
 use crate::key::Key;
-use crate::show::named_byte;
-use crate::show::value::{number, octets, serial, small};
-use field::bounded::{LineNumber, PonId, Sequence, VendorKind};
-use field::number::{Count, SerialNumber};
-use field::octets::Octets;
+use crate::show::value::{Fields, Keyed, Shown};
+use field::bounded::PonId;
 use std::alloc::AllocError;
-use upstream::fault::{UpstreamFault, UpstreamField};
+use std::fmt;
+use upstream::fault::UpstreamFault;
 use upstream::message::Upstream;
 
 fn name(message: &Upstream) -> &'static str
@@ -34,144 +32,109 @@ fn name(message: &Upstream) -> &'static str
 }
 
 // An ONU without a PON_ID is 64.
-fn source(out: &mut String, source: Option<PonId>) -> Result<(), AllocError>
-    ensures { OnOk result (string_bytes out.new ≡ with_fields (string_bytes out.old) (sourceField source ∷ [])) }
+fn source_number(source: Option<PonId>) -> u8
+    ensures { result ≡ number_of_source source }
 {
-    match source {
-        Some(pon_id) => small(out, Key::Source, pon_id.value()),
-        None => small(out, Key::Source, 64),
+    source.map_or(64, |pon_id| pon_id.value())
+}
+
+// The source and each field.
+impl fmt::Display for Fields<Upstream> {
+    ghost output = { λ message. Some (fields_text (upstream_fields message.0)) };
+
+    fn fmt<W: fmt::Write>(&self, f: &mut fmt::Formatter<W>) -> fmt::Result {
+        match self.0 {
+            Upstream::NoMessage { source }
+            | Upstream::PhysicalEquipmentError { source }
+            | Upstream::RInh { source } => write!(f, "{}", Keyed(Key::Source, source.value())),
+            Upstream::NewChurningKey { source, key } => write!(
+                f,
+                "{}{}",
+                Keyed(Key::Source, source.value()),
+                Keyed(Key::ChurningKey, Shown(key))
+            ),
+            Upstream::Acknowledge {
+                source,
+                message,
+                body,
+            } => write!(
+                f,
+                "{}{}{}",
+                Keyed(Key::Source, source.value()),
+                Keyed(Key::Message, message),
+                Keyed(Key::Bytes, Shown(body))
+            ),
+            Upstream::SerialNumberOnu { source, serial } => write!(
+                f,
+                "{}{}",
+                Keyed(Key::Source, source_number(source)),
+                Keyed(Key::Serial, Shown(serial))
+            ),
+            Upstream::Password { source, password } => write!(
+                f,
+                "{}{}",
+                Keyed(Key::Source, source.value()),
+                Keyed(Key::Password, Shown(password))
+            ),
+            Upstream::BigKey {
+                source,
+                index,
+                fragment,
+                body,
+            } => write!(
+                f,
+                "{}{}{}{}",
+                Keyed(Key::Source, source.value()),
+                Keyed(Key::KeyIndex, index),
+                Keyed(Key::Fragment, fragment),
+                Keyed(Key::Bytes, Shown(body))
+            ),
+            Upstream::VendorSpecific { source, kind, body } => write!(
+                f,
+                "{}{}{}",
+                Keyed(Key::Source, source.value()),
+                Keyed(Key::Kind, kind.value()),
+                Keyed(Key::Bytes, Shown(body))
+            ),
+            Upstream::Rei {
+                source,
+                errors,
+                sequence,
+            } => write!(
+                f,
+                "{}{}{}",
+                Keyed(Key::Source, source.value()),
+                Keyed(Key::Errors, errors.value()),
+                Keyed(Key::Sequence, sequence.value())
+            ),
+            Upstream::Pst {
+                source,
+                line,
+                k1,
+                k2,
+            } => write!(
+                f,
+                "{}{}{}{}",
+                Keyed(Key::Source, source.value()),
+                Keyed(Key::Line, line.value()),
+                Keyed(Key::K1, Digits(&[k1])),
+                Keyed(Key::K2, Digits(&[k2]))
+            ),
+            Upstream::MessageError { source, message } => write!(
+                f,
+                "{}{}",
+                Keyed(Key::Source, source.value()),
+                Keyed(Key::Message, message)
+            ),
+        }
     }
 }
 
-fn big_key(
-    out: &mut String,
-    from: PonId,
-    index: u8,
-    fragment: u8,
-    body: Octets<8>,
-) -> Result<(), AllocError>
-    ensures { OnOk result (string_bytes out.new ≡ with_fields (string_bytes out.old) (upstream_fields (sent.BigKey from index fragment body))) }
-{
-    small(out, Key::Source, from.value())?;
-    small(out, Key::KeyIndex, index)?;
-    small(out, Key::Fragment, fragment)?;
-    octets(out, Key::Bytes, &body.bytes())
-}
+impl fmt::Display for Shown<Upstream> {
+    ghost output = { λ message. Some (upstream_text message.0) };
 
-fn vendor_specific(
-    out: &mut String,
-    from: PonId,
-    kind: VendorKind,
-    body: Octets<10>,
-) -> Result<(), AllocError>
-    ensures { OnOk result (string_bytes out.new ≡ with_fields (string_bytes out.old) (upstream_fields (sent.VendorSpecific from kind body))) }
-{
-    small(out, Key::Source, from.value())?;
-    small(out, Key::Kind, kind.value())?;
-    octets(out, Key::Bytes, &body.bytes())
-}
-
-fn rei(out: &mut String, from: PonId, errors: Count, sequence: Sequence) -> Result<(), AllocError>
-    ensures { OnOk result (string_bytes out.new ≡ with_fields (string_bytes out.old) (upstream_fields (sent.Rei from errors sequence))) }
-{
-    small(out, Key::Source, from.value())?;
-    number(out, Key::Errors, errors.value())?;
-    small(out, Key::Sequence, sequence.value())
-}
-
-fn pst(out: &mut String, from: PonId, line: LineNumber, k1: u8, k2: u8) -> Result<(), AllocError>
-    ensures { OnOk result (string_bytes out.new ≡ with_fields (string_bytes out.old) (upstream_fields (sent.Pst from line k1 k2))) }
-{
-    small(out, Key::Source, from.value())?;
-    small(out, Key::Line, line.value())?;
-    octets(out, Key::K1, &[k1])?;
-    octets(out, Key::K2, &[k2])
-}
-
-fn acknowledge(
-    out: &mut String,
-    from: PonId,
-    message: u8,
-    body: Octets<9>,
-) -> Result<(), AllocError>
-    ensures { OnOk result (string_bytes out.new ≡ with_fields (string_bytes out.old) (upstream_fields (sent.Acknowledge from message body))) }
-{
-    small(out, Key::Source, from.value())?;
-    small(out, Key::Message, message)?;
-    octets(out, Key::Bytes, &body.bytes())
-}
-
-// The source and one run of bytes.
-fn with_octets(out: &mut String, from: PonId, key: Key, bytes: &[u8]) -> Result<(), AllocError>
-    ensures { OnOk result (string_bytes out.new ≡ with_fields (string_bytes out.old) (source_of from ∷ octetsField key bytes.now ∷ [])) }
-{
-    small(out, Key::Source, from.value())?;
-    octets(out, key, bytes)
-}
-
-fn serial_number_onu(
-    out: &mut String,
-    from: Option<PonId>,
-    number: SerialNumber,
-) -> Result<(), AllocError>
-    ensures { OnOk result (string_bytes out.new ≡ with_fields (string_bytes out.old) (upstream_fields (sent.SerialNumberOnu from number))) }
-{
-    source(out, from)?;
-    serial(out, number)
-}
-
-fn message_error(out: &mut String, from: PonId, message: u8) -> Result<(), AllocError>
-    ensures { OnOk result (string_bytes out.new ≡ with_fields (string_bytes out.old) (upstream_fields (sent.MessageError from message))) }
-{
-    small(out, Key::Source, from.value())?;
-    small(out, Key::Message, message)
-}
-
-// Appends the source and each field after a blank.
-fn fields(out: &mut String, message: Upstream) -> Result<(), AllocError>
-    ensures { OnOk result (string_bytes out.new ≡ with_fields (string_bytes out.old) (upstream_fields message)) }
-{
-    match message {
-        Upstream::NoMessage { source } => small(out, Key::Source, source.value()),
-        Upstream::NewChurningKey { source, key } => with_octets(
-            out,
-            source,
-            Key::ChurningKey,
-            &key.bytes(),
-        ),
-        Upstream::Acknowledge {
-            source,
-            message,
-            body,
-        } => acknowledge(out, source, message, body),
-        Upstream::SerialNumberOnu { source, serial } => serial_number_onu(out, source, serial),
-        Upstream::Password { source, password } => with_octets(
-            out,
-            source,
-            Key::Password,
-            &password.bytes(),
-        ),
-        Upstream::PhysicalEquipmentError { source } => small(out, Key::Source, source.value()),
-        Upstream::BigKey {
-            source,
-            index,
-            fragment,
-            body,
-        } => big_key(out, source, index, fragment, body),
-        Upstream::VendorSpecific { source, kind, body } => vendor_specific(out, source, kind, body),
-        Upstream::Rei {
-            source,
-            errors,
-            sequence,
-        } => rei(out, source, errors, sequence),
-        Upstream::RInh { source } => small(out, Key::Source, source.value()),
-        Upstream::Pst {
-            source,
-            line,
-            k1,
-            k2,
-        } => pst(out, source, line, k1, k2),
-        Upstream::MessageError { source, message } => message_error(out, source, message),
+    fn fmt<W: fmt::Write>(&self, f: &mut fmt::Formatter<W>) -> fmt::Result {
+        write!(f, "message={}{}", name(&self.0), Fields(self.0))
     }
 }
 
@@ -179,18 +142,18 @@ fn fields(out: &mut String, message: Upstream) -> Result<(), AllocError>
 pub fn message(out: &mut String, message: &Upstream) -> Result<(), AllocError>
     ensures { OnOk result (string_bytes out.new ≡ with_upstream (string_bytes out.old) message.now) }
 {
-    out.push_str("message=")?;
-    out.push_str(name(message))?;
-    fields(out, *message)
+    write!(out, "{}", Shown(*message))
 }
 
-fn key(field: UpstreamField) -> Key
-    ensures { result ≡ upstream_key field }
-{
-    match field {
-        UpstreamField::ZeroByte => Key::Zero,
-        UpstreamField::SequenceBits => Key::Sequence,
-        UpstreamField::Line => Key::Line,
+impl fmt::Display for Shown<UpstreamFault> {
+    ghost output = { λ fault. Some (upstream_fault_text fault.0) };
+
+    fn fmt<W: fmt::Write>(&self, f: &mut fmt::Formatter<W>) -> fmt::Result {
+        match self.0 {
+            UpstreamFault::UnknownIdentifier(identifier) => write!(f, "identifier={identifier}"),
+            UpstreamFault::WrongSource(source) => write!(f, "source={source}"),
+            UpstreamFault::OutOfRange(field) => write!(f, "field={}", Key::from(field)),
+        }
     }
 }
 
@@ -198,12 +161,5 @@ fn key(field: UpstreamField) -> Key
 pub fn fault(out: &mut String, fault: UpstreamFault) -> Result<(), AllocError>
     ensures { OnOk result (string_bytes out.new ≡ with_upstream_fault (string_bytes out.old) fault) }
 {
-    match fault {
-        UpstreamFault::UnknownIdentifier(identifier) => named_byte(out, "identifier=", identifier),
-        UpstreamFault::WrongSource(source) => named_byte(out, "source=", source),
-        UpstreamFault::OutOfRange(field) => {
-            out.push_str("field=")?;
-            out.push_str(key(field).name())
-        }
-    }
+    write!(out, "{}", Shown(fault))
 }

@@ -1,87 +1,68 @@
-// One field of a line: a blank, the key, and the value.
-ghost use Rattle.std.specs.Prelude.{◌≡◌, [], ◌∷◌, ◌++◌, string_bytes, decimal as digits, OnOk};
-ghost use Rattle.readable.specs.declared.key.Key.TheVariants.{PonId as PonIdKey, Delay as DelayKey};
-ghost use Rattle.readable.specs.Shown.{keyed, with_fields, number as numberField, flag as flagField, octets as octetsField, serial as serialField, address as addressField};
+// Values as text, and one field of a line: a blank, the key, its sign and the value.
+ghost use Rattle.std.specs.Prelude.{Some, cond, codes};
+ghost use Rattle.std.specs.Fmt.{◌++?◌};
+ghost use Rattle.field.specs.Bytes.{number_bytes};
+ghost use Rattle.readable.specs.Shown.{key_text, hexed, address_text};
 
-use crate::hex::push_digits;
+use crate::hex::Digits;
 use crate::key::Key;
-use field::bounded::PonId;
-use field::delay::Delay;
 use field::number::SerialNumber;
+use field::octets::Octets;
 use message::downstream::Address;
-use std::alloc::AllocError;
+use std::fmt;
 
-pub(crate) fn decimal(out: &mut String, value: u64) -> Result<(), AllocError>
-    ensures { OnOk result (string_bytes out.new ≡ string_bytes out.old ++ digits value) }
-{
-    write!(out, "{value}")
+// A field with its key: ` guard=4`.
+#[derive(Clone, Copy)]
+pub(crate) struct Keyed<T>(pub(crate) Key, pub(crate) T);
+
+impl<T: fmt::Display> fmt::Display for Keyed<T> {
+    ghost output = { λ field. Some (key_text field.0) ++? T.output field.1 };
+
+    fn fmt<W: fmt::Write>(&self, f: &mut fmt::Formatter<W>) -> fmt::Result {
+        let Keyed(key, value) = self;
+        write!(f, " {}={value}", key.name())
+    }
 }
 
-// A blank, the key and its sign.
-pub(crate) fn label(out: &mut String, key: Key) -> Result<(), AllocError>
-    ensures { OnOk result (string_bytes out.new ≡ keyed (string_bytes out.old) key) }
-{
-    out.push_str(" ")?;
-    out.push_str(key.name())?;
-    out.push_str("=")
+// A value of another crate, in the form that a line has.
+#[derive(Clone, Copy)]
+pub(crate) struct Shown<T>(pub(crate) T);
+
+// The fields of a message, each after a blank.
+#[derive(Clone, Copy)]
+pub(crate) struct Fields<M>(pub(crate) M);
+
+impl fmt::Display for Shown<bool> {
+    ghost output = { λ flag. Some (cond flag.0 (codes "1") (codes "0")) };
+
+    fn fmt<W: fmt::Write>(&self, f: &mut fmt::Formatter<W>) -> fmt::Result {
+        f.write_str(if self.0 { "1" } else { "0" })
+    }
 }
 
-pub(crate) fn text(out: &mut String, key: Key, value: &str) -> Result<(), AllocError>
-    ensures { OnOk result (string_bytes out.new ≡ with_fields (string_bytes out.old) ((key, value.now) ∷ [])) }
-{
-    label(out, key)?;
-    out.push_str(value)
+impl<const N: usize> fmt::Display for Shown<Octets<N>> {
+    ghost output = { λ octets. Some (hexed octets.0.bytes) };
+
+    fn fmt<W: fmt::Write>(&self, f: &mut fmt::Formatter<W>) -> fmt::Result {
+        write!(f, "{}", Digits(&self.0.bytes()))
+    }
 }
 
-pub(crate) fn number(out: &mut String, key: Key, value: u64) -> Result<(), AllocError>
-    ensures { OnOk result (string_bytes out.new ≡ with_fields (string_bytes out.old) (numberField key value ∷ [])) }
-{
-    label(out, key)?;
-    decimal(out, value)
+impl fmt::Display for Shown<SerialNumber> {
+    ghost output = { λ serial. Some (hexed (number_bytes serial.0.value)) };
+
+    fn fmt<W: fmt::Write>(&self, f: &mut fmt::Formatter<W>) -> fmt::Result {
+        write!(f, "{}", Digits(&self.0.value().to_be_bytes()))
+    }
 }
 
-pub(crate) fn small(out: &mut String, key: Key, value: u8) -> Result<(), AllocError>
-    ensures { OnOk result (string_bytes out.new ≡ with_fields (string_bytes out.old) (numberField key value ∷ [])) }
-{
-    number(out, key, u64::from(value))
-}
+impl fmt::Display for Shown<Address> {
+    ghost output = { λ to. Some (address_text to.0) };
 
-pub(crate) fn flag(out: &mut String, key: Key, value: bool) -> Result<(), AllocError>
-    ensures { OnOk result (string_bytes out.new ≡ with_fields (string_bytes out.old) (flagField key value ∷ [])) }
-{
-    text(out, key, if value { "1" } else { "0" })
-}
-
-pub(crate) fn octets(out: &mut String, key: Key, bytes: &[u8]) -> Result<(), AllocError>
-    ensures { OnOk result (string_bytes out.new ≡ with_fields (string_bytes out.old) (octetsField key bytes.now ∷ [])) }
-{
-    label(out, key)?;
-    push_digits(out, bytes)
-}
-
-pub(crate) fn serial(out: &mut String, number: SerialNumber) -> Result<(), AllocError>
-    ensures { OnOk result (string_bytes out.new ≡ with_fields (string_bytes out.old) (serialField number.value ∷ [])) }
-{
-    octets(out, Key::Serial, &number.value().to_be_bytes())
-}
-
-pub(crate) fn delay(out: &mut String, delay: Delay) -> Result<(), AllocError>
-    ensures { OnOk result (string_bytes out.new ≡ with_fields (string_bytes out.old) (numberField DelayKey delay.bits ∷ [])) }
-{
-    number(out, Key::Delay, u64::from(delay.bits()))
-}
-
-pub(crate) fn pon_id(out: &mut String, pon_id: PonId) -> Result<(), AllocError>
-    ensures { OnOk result (string_bytes out.new ≡ with_fields (string_bytes out.old) (numberField PonIdKey pon_id.value ∷ [])) }
-{
-    small(out, Key::PonId, pon_id.value())
-}
-
-pub(crate) fn address(out: &mut String, to: Address) -> Result<(), AllocError>
-    ensures { OnOk result (string_bytes out.new ≡ with_fields (string_bytes out.old) (addressField to ∷ [])) }
-{
-    match to {
-        Address::One(one) => pon_id(out, one),
-        Address::All => text(out, Key::PonId, "all"),
+    fn fmt<W: fmt::Write>(&self, f: &mut fmt::Formatter<W>) -> fmt::Result {
+        match self.0 {
+            Address::One(pon_id) => write!(f, "{}", pon_id.value()),
+            Address::All => f.write_str("all"),
+        }
     }
 }

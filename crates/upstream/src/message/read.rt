@@ -123,34 +123,32 @@ fn pst(bytes: &[u8; 12]) -> Result<Upstream, UpstreamFault>
     })
 }
 
-impl Upstream {
-    // The message, or the first reason why these twelve bytes are none.
-    pub fn read(bytes: &[u8; 12]) -> Result<Upstream, UpstreamFault>
-        ensures { result ≡ upstream_of bytes.now }
-    {
-        match bytes[1] {
-            0x00 => Ok(Upstream::NoMessage {
-                source: onu(bytes[0])?,
-            }),
-            0x01 => new_churning_key(bytes),
-            0x02 => acknowledge(bytes),
-            0x03 => serial_number_onu(bytes),
-            0x04 => password(bytes),
-            0x05 => Ok(Upstream::PhysicalEquipmentError {
-                source: onu(bytes[0])?,
-            }),
-            0x06 => big_key(bytes),
-            0x78..=0x7f => vendor_specific(bytes),
-            0x80 => rei(bytes),
-            0x81 => Ok(Upstream::RInh {
-                source: onu(bytes[0])?,
-            }),
-            0x82 => pst(bytes),
-            0x83 => Ok(Upstream::MessageError {
-                source: onu(bytes[0])?,
-                message: bytes[2],
-            }),
-            unknown => Err(UpstreamFault::UnknownIdentifier(unknown)),
-        }
+// The message, or the first reason why these twelve bytes are none.
+pub(super) fn message(bytes: &[u8; 12]) -> Result<Upstream, UpstreamFault>
+    ensures { result ≡ upstream_of bytes.now }
+{
+    match bytes[1] {
+        0x00 => Ok(Upstream::NoMessage {
+            source: onu(bytes[0])?,
+        }),
+        0x01 => new_churning_key(bytes),
+        0x02 => acknowledge(bytes),
+        0x03 => serial_number_onu(bytes),
+        0x04 => password(bytes),
+        0x05 => Ok(Upstream::PhysicalEquipmentError {
+            source: onu(bytes[0])?,
+        }),
+        0x06 => big_key(bytes),
+        0x78..=0x7f => vendor_specific(bytes),
+        0x80 => rei(bytes),
+        0x81 => Ok(Upstream::RInh {
+            source: onu(bytes[0])?,
+        }),
+        0x82 => pst(bytes),
+        0x83 => Ok(Upstream::MessageError {
+            source: onu(bytes[0])?,
+            message: bytes[2],
+        }),
+        unknown => Err(UpstreamFault::UnknownIdentifier(unknown)),
     }
 }

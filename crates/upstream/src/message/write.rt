@@ -11,10 +11,7 @@ use field::octets::Octets;
 fn source_byte(source: Option<PonId>) -> u8
     ensures { result ≡ source_byte source }
 {
-    match source {
-        Some(pon_id) => pon_id.value(),
-        None => 64,
-    }
+    source.map_or(64, |pon_id| pon_id.value())
 }
 
 fn acknowledge(source: PonId, message: u8, body: Octets<9>) -> [u8; 12]
@@ -98,57 +95,55 @@ fn rei(source: PonId, errors: Count, sequence: Sequence) -> [u8; 12]
     ]
 }
 
-impl Upstream {
-    pub fn write(self) -> [u8; 12]
-        ensures { result ≡ bytes_of self }
-    {
-        match self {
-            Upstream::NoMessage { source } => plain(source.value(), 0x00, [0; 4]),
-            Upstream::NewChurningKey { source, key } => {
-                let k = key.bytes();
-                plain(source.value(), 0x01, [k[0], k[1], k[2], 0])
-            }
-            Upstream::Acknowledge {
-                source,
-                message,
-                body,
-            } => acknowledge(source, message, body),
-            Upstream::SerialNumberOnu { source, serial } => with_serial(
-                source_byte(source),
-                0x03,
-                0,
-                serial,
-            ),
-            Upstream::Password { source, password } => with_ten(source, 0x04, password),
-            Upstream::PhysicalEquipmentError { source } => plain(source.value(), 0x05, [0; 4]),
-            Upstream::BigKey {
-                source,
-                index,
-                fragment,
-                body,
-            } => big_key(source, index, fragment, body),
-            Upstream::VendorSpecific { source, kind, body } => with_ten(
-                source,
-                0x78 + kind.value(),
-                body,
-            ),
-            Upstream::Rei {
-                source,
-                errors,
-                sequence,
-            } => rei(source, errors, sequence),
-            Upstream::RInh { source } => plain(source.value(), 0x81, [0; 4]),
-            Upstream::Pst {
-                source,
-                line,
-                k1,
-                k2,
-            } => plain(source.value(), 0x82, [line.value(), k1, k2, 0]),
-            Upstream::MessageError { source, message } => plain(
-                source.value(),
-                0x83,
-                [message, 0, 0, 0],
-            ),
+pub(super) fn bytes(message: Upstream) -> [u8; 12]
+    ensures { result ≡ bytes_of message }
+{
+    match message {
+        Upstream::NoMessage { source } => plain(source.value(), 0x00, [0; 4]),
+        Upstream::NewChurningKey { source, key } => {
+            let k = key.bytes();
+            plain(source.value(), 0x01, [k[0], k[1], k[2], 0])
         }
+        Upstream::Acknowledge {
+            source,
+            message,
+            body,
+        } => acknowledge(source, message, body),
+        Upstream::SerialNumberOnu { source, serial } => with_serial(
+            source_byte(source),
+            0x03,
+            0,
+            serial,
+        ),
+        Upstream::Password { source, password } => with_ten(source, 0x04, password),
+        Upstream::PhysicalEquipmentError { source } => plain(source.value(), 0x05, [0; 4]),
+        Upstream::BigKey {
+            source,
+            index,
+            fragment,
+            body,
+        } => big_key(source, index, fragment, body),
+        Upstream::VendorSpecific { source, kind, body } => with_ten(
+            source,
+            0x78 + kind.value(),
+            body,
+        ),
+        Upstream::Rei {
+            source,
+            errors,
+            sequence,
+        } => rei(source, errors, sequence),
+        Upstream::RInh { source } => plain(source.value(), 0x81, [0; 4]),
+        Upstream::Pst {
+            source,
+            line,
+            k1,
+            k2,
+        } => plain(source.value(), 0x82, [line.value(), k1, k2, 0]),
+        Upstream::MessageError { source, message } => plain(
+            source.value(),
+            0x83,
+            [message, 0, 0, 0],
+        ),
     }
 }

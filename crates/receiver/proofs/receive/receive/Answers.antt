@@ -1,5 +1,4 @@
 use Rattle.std.proofs.Common.{◌≡◌, length, arith, rules}
-use Rattle.std.proofs.lemmas.List.{take_all}
 use Rattle.receiver.proofs.Rows.{reported_none, one_more}
 use Rattle.receiver.proofs.receive.receive.Goals as goal
 
@@ -11,6 +10,3 @@ loop-x-preserved c =
     let l : length c.loop-x.report ≡ 954 = omega arith in
     let m : length c.copy_from_slice.new.self ≡ 18 = search rules in
     one_more c.args.frame c.args.bursts.now c.args.marks.now c.loop-x.x _ c.loop-x.report c.copy_from_slice.new.self l (omega arith) m c.loop-x.invariant (search rules)
-
-pub returns : goal.returns
-returns c = search (rules, take_all)

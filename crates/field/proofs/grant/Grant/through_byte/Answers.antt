@@ -5,4 +5,4 @@ use Rattle.field.proofs.grant.Grant.through_byte.Goals as goal
 
 pub returns : goal.returns
 returns c =
-    record { value = c.from_byte.ensures ∙ ap grant_of c.byte.ensures ∙ grant_again c.args.self; law = (grant_again, code_again) }
+    record { value = c.from-2.ensures ∙ ap grant_of c.from.ensures ∙ grant_again c.args.self; law = (grant_again, code_again) }

@@ -13,7 +13,7 @@ pub loop-k-preserved : goal.loop-k-preserved
 loop-k-preserved g c =
     let h : c.loop-k.k < length c.loop-k.places = omega (arith, c.loop-k.invariant.0) in (
       simp length-set c.loop-k.invariant.0,
-      simp c.from_byte.ensures (fill_by_more (λ j. grant_of (get_or c.args.self.codes j 0)) c.loop-k.places c.loop-k.k Idle h c.loop-k.invariant.1),
+      simp c.from.ensures (fill_by_more (λ j. grant_of (get_or c.args.self.codes j 0)) c.loop-k.places c.loop-k.k Idle h c.loop-k.invariant.1),
     )
 
 pub returns : goal.returns

@@ -4,4 +4,4 @@ use Rattle.field.proofs.number.Number.saturating.Goals as goal
 
 pub returns : goal.returns
 unfolding capped
-returns g c = number_same _ _ _ c.nearest.ensures _ _
+returns g c = number_same _ _ _ c.min.ensures _ _
