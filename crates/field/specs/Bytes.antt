@@ -43,6 +43,10 @@ serial_bytes address identifier first number = address ∷ identifier ∷ first 
 abbrev pub plain_bytes : (address identifier : ℕ) → List ℕ → List ℕ
 plain_bytes address identifier fields = address ∷ identifier ∷ picked 0 4 fields ++ replicate 6 0
 
+-- a message whose ten bytes of fields are one run
+abbrev pub with_ten_bytes : (address identifier : ℕ) → Octets 10 → List ℕ
+with_ten_bytes address identifier body = address ∷ identifier ∷ picked 0 10 body.bytes
+
 -- all that follows the identifier
 abbrev pub ten_of : List ℕ → Octets 10
 ten_of bytes = octets_of 10 (picked 2 10 bytes)

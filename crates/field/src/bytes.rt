@@ -1,6 +1,6 @@
 // Numbers in the bytes of a message, the most significant byte first.
 ghost use Rattle.std.specs.Prelude.{◌≡◌};
-ghost use Rattle.field.specs.Bytes.{serial_of, serial_bytes, word_of, plain_bytes, ten_of};
+ghost use Rattle.field.specs.Bytes.{serial_of, serial_bytes, word_of, plain_bytes, with_ten_bytes, ten_of};
 
 use crate::number::{Count, SerialNumber};
 use crate::octets::Octets;
@@ -38,6 +38,16 @@ pub fn plain(address: u8, identifier: u8, fields: [u8; 4]) -> [u8; 12]
 {
     [
         address, identifier, fields[0], fields[1], fields[2], fields[3], 0, 0, 0, 0, 0, 0,
+    ]
+}
+
+// A message whose ten bytes of fields are one run.
+pub fn with_ten(address: u8, identifier: u8, body: Octets<10>) -> [u8; 12]
+    ensures { result ≡ with_ten_bytes address identifier body }
+{
+    let b = body.bytes();
+    [
+        address, identifier, b[0], b[1], b[2], b[3], b[4], b[5], b[6], b[7], b[8], b[9],
     ]
 }
 

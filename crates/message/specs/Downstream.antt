@@ -62,7 +62,7 @@ use Rattle.message.specs.declared.fault.Field.TheVariants.{
 }
 use Rattle.message.specs.declared.fault.MessageFault.{MessageFault}
 use Rattle.message.specs.declared.fault.MessageFault.TheVariants.{UnknownIdentifier, WrongAddress, OutOfRange}
-use Rattle.field.specs.Bytes.{at, then, triple, triple_bytes, word_of, word_bytes, serial_of, serial_bytes, plain_bytes, ten_of}
+use Rattle.field.specs.Bytes.{at, then, triple, triple_bytes, word_of, word_bytes, serial_of, serial_bytes, plain_bytes, with_ten_bytes, ten_of}
 
 -- a message, or the first reason why there is none
 abbrev pub Reading : Type 0
@@ -237,7 +237,7 @@ path_bytes p active header mask =
     p.value ∷ 12 ∷ flag_byte active ∷ picked 0 4 header.bytes ++ picked 0 4 mask.bytes ++ 0 ∷ []
 
 abbrev pub vendor_bytes : Address → Bounded 0 7 → Octets 10 → List ℕ
-vendor_bytes to kind body = address_byte to ∷ (120 + kind.value) ∷ picked 0 10 body.bytes
+vendor_bytes to kind body = with_ten_bytes (address_byte to) (120 + kind.value) body
 
 abbrev pub bytes_of : Downstream → List ℕ
 bytes_of NoMessage = plain_bytes 64 0 []

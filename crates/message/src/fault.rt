@@ -33,10 +33,10 @@ pub enum MessageFault {
     OutOfRange(Field),
 }
 
-impl Field {
-    // The field's name, as the readable form of a message has it.
-    fn name(self) -> &'static str {
-        match self {
+// The field's name, as the readable form of a message has it.
+impl fmt::Display for Field {
+    fn fmt<W: fmt::Write>(&self, f: &mut fmt::Formatter<W>) -> fmt::Result {
+        f.write_str(match self {
             Field::Part => "part",
             Field::GuardBits => "guard",
             Field::DelayBits => "delay",
@@ -54,7 +54,7 @@ impl Field {
             Field::SlotLength => "length",
             Field::VpiBits => "vpi",
             Field::Line => "line",
-        }
+        })
     }
 }
 
@@ -66,10 +66,7 @@ impl fmt::Display for MessageFault {
                 "unknown identifier {identifier}"
             ),
             MessageFault::WrongAddress(address) => write!(f, "wrong address {address}"),
-            MessageFault::OutOfRange(field) => {
-                let name = field.name();
-                write!(f, "{name} out of range")
-            }
+            MessageFault::OutOfRange(field) => write!(f, "{field} out of range"),
         }
     }
 }

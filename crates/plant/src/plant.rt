@@ -28,9 +28,7 @@ pub trait Plant: Sized {
     fn hear(&mut self, payload: &[u8], first: u64, bursts: &mut Vec<Burst>) -> Result<(), HearFault>
         ensures { Hearing does (length (means self.old)) self.old payload.now first bursts.old self.new bursts.new result }
     {
-        let Ok(cell) = Cell::new(payload) else {
-            return Err(HearFault::Length);
-        };
+        let cell = Cell::new(payload).map_err(|_| HearFault::Length)?;
         if bursts.capacity() - bursts.len() < 27 * self.count() {
             return Err(HearFault::Room);
         }

@@ -71,6 +71,6 @@ impl Answers for Reader {
     }
 
     fn end(&self, out: &mut String) -> Result<(), AllocError> {
-        self.tally.show(out)
+        write!(out, "{}", self.tally)
     }
 }

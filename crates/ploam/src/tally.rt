@@ -1,7 +1,7 @@
 // How much was read, and what was wrong with the rest.
 use cell::fault::CellFault;
 use readable::kind::{KINDS, Kind};
-use std::alloc::AllocError;
+use std::fmt;
 use std::num::Saturating;
 
 #[derive(Clone, Copy)]
@@ -11,7 +11,7 @@ pub struct Tally {
     check_faults: Saturating<u64>,
     message_faults: Saturating<u64>,
     not_hex: Saturating<u64>,
-    // how many messages there were of each kind
+    // how many messages there were of each kind, in the order of the kinds
     messages: [(Kind, Saturating<u64>); 20],
 }
 
@@ -29,10 +29,8 @@ impl Tally {
 
     pub fn cell(&mut self, kind: Kind) {
         self.cells += 1;
-        for (of, count) in &mut self.messages {
-            if *of == kind {
-                *count += 1;
-            }
+        if let Some((_, count)) = self.messages.get_mut(kind as usize) {
+            *count += 1;
         }
     }
 
@@ -47,9 +45,11 @@ impl Tally {
     pub fn not_hex(&mut self) {
         self.not_hex += 1;
     }
+}
 
-    // Appends a line for each count, and one for each kind of message that occurred.
-    pub fn show(&self, out: &mut String) -> Result<(), AllocError> {
+// A line for each count, and one for each kind of message that occurred.
+impl fmt::Display for Tally {
+    fn fmt<W: fmt::Write>(&self, f: &mut fmt::Formatter<W>) -> fmt::Result {
         let Tally {
             cells,
             length_faults,
@@ -58,14 +58,14 @@ impl Tally {
             not_hex,
             messages,
         } = self;
-        writeln!(out, "cells read: {cells}")?;
-        writeln!(out, "faults of length: {length_faults}")?;
-        writeln!(out, "faults of a check byte: {check_faults}")?;
-        writeln!(out, "faults of a message: {message_faults}")?;
-        writeln!(out, "lines that are not hex: {not_hex}")?;
+        writeln!(f, "cells read: {cells}")?;
+        writeln!(f, "faults of length: {length_faults}")?;
+        writeln!(f, "faults of a check byte: {check_faults}")?;
+        writeln!(f, "faults of a message: {message_faults}")?;
+        writeln!(f, "lines that are not hex: {not_hex}")?;
         for (kind, count) in messages {
             if count.0 > 0 {
-                writeln!(out, "{kind}: {count}")?;
+                writeln!(f, "{kind}: {count}")?;
             }
         }
         Ok(())

@@ -1,5 +1,5 @@
 -- The names that stand in a line.
-use Rattle.std.specs.Prelude.{ℕ, List, codes}
+use Rattle.std.specs.Prelude.{◌≡◌, ℕ, List, codes, IfOk, Result}
 use Rattle.message.specs.declared.downstream.Downstream.{Downstream}
 use Rattle.message.specs.declared.downstream.Downstream.TheVariants as sent
 use Rattle.message.specs.declared.fault.Field.{Field}
@@ -96,6 +96,10 @@ kind_of sent.Popup = kind.Popup
 kind_of (sent.VendorSpecific a b c) = kind.VendorSpecific
 kind_of (sent.Pst a b c) = kind.Pst
 kind_of (sent.BerInterval a b) = kind.BerInterval
+
+-- what is read, if anything, is a message of a kind
+abbrev pub OfKind : {E : Type 0} → Kind → Result Downstream E → Type 0
+OfKind k read = IfOk read (λ message. kind_of message ≡ k)
 
 -- the key of a field that can be out of range
 abbrev pub key_of : Field → Key

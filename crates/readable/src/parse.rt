@@ -17,7 +17,7 @@ fn grants(list: &str) -> Result<[Grant; 27], Wanted> {
     let mut left = grants.as_mut_slice();
     let mut last = None;
     for run in list.split(',') {
-        let Run { grant, count } = Run::read(run)?;
+        let Run { grant, count } = run.parse::<Run>()?;
         if last == Some(grant) {
             return Err(Wanted::JoinedRun);
         }

@@ -2,12 +2,12 @@
 ghost use Rattle.std.specs.Prelude.{◌≤◌, Some, IfOk};
 ghost use Rattle.readable.specs.Shown.{grant_name, run_text, grants_text};
 
-use crate::parse::value::{decimal as decimal_of, small};
+use crate::parse::value::{Value, decimal};
 use crate::show::value::Shown;
 use crate::wanted::Wanted;
-use field::bounded::GrantCode;
 use field::grant::Grant;
 use std::fmt;
+use std::str::FromStr;
 
 #[derive(Clone, Copy)]
 pub(crate) struct Run {
@@ -15,16 +15,12 @@ pub(crate) struct Run {
     pub(crate) count: usize,
 }
 
-fn code(text: &str) -> Option<GrantCode> {
-    GrantCode::new(small(text)?)
-}
-
 fn grant(name: &str) -> Result<Grant, Wanted> {
     match name {
         "ranging" => Ok(Grant::Ranging),
         "unassigned" => Ok(Grant::Unassigned),
         "idle" => Ok(Grant::Idle),
-        other => Ok(Grant::Code(code(other).ok_or(Wanted::GrantName)?)),
+        code => Value::read(code).map(Grant::Code).ok_or(Wanted::GrantName),
     }
 }
 
@@ -32,14 +28,16 @@ fn grant(name: &str) -> Result<Grant, Wanted> {
 fn length(text: &str) -> Result<usize, Wanted>
     ensures { IfOk result (λ n. n ≤ 27) }
 {
-    match decimal_of(text) {
+    match decimal(text) {
         Some(count) if 2 <= count && count <= 27 => Ok(count as usize),
         _ => Err(Wanted::RunLength),
     }
 }
 
-impl Run {
-    pub(crate) fn read(text: &str) -> Result<Run, Wanted> {
+impl FromStr for Run {
+    type Err = Wanted;
+
+    fn from_str(text: &str) -> Result<Run, Wanted> {
         match text.split_once('*') {
             None => Ok(Run {
                 grant: grant(text)?,

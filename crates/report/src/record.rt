@@ -15,7 +15,7 @@ pub enum Light {
     Data = 3,
 }
 
-#[derive(Clone, Copy)]
+#[derive(Clone, Copy, PartialEq, Eq)]
 pub struct Record {
     pub light: Light,
     // how many parity bits differed

@@ -93,10 +93,11 @@ impl<'a> Words<'a> {
 
     // A number of 64 bits in 16 hex digits.
     fn hex64(&mut self) -> Result<u64, NoCommand> {
-        match <[u8; 8]>::try_from(self.bytes()?.as_slice()) {
-            Ok(eight) => Ok(u64::from_be_bytes(eight)),
-            Err(_) => Err(NoCommand::Expected("16 hex digits")),
-        }
+        let bytes = self.bytes()?;
+        let eight = <[u8; 8]>::try_from(bytes.as_slice()).map_err(|_| NoCommand::Expected(
+            "16 hex digits",
+        ))?;
+        Ok(u64::from_be_bytes(eight))
     }
 
     fn end(&mut self) -> Result<(), NoCommand> {

@@ -8,14 +8,15 @@ use readable::hex::Digits;
 use receiver::receive::receive;
 use std::alloc::{AllocError, Global};
 use std::io::{BufRead, BufReader};
+use std::num::Saturating;
 use std::{array, fmt, io, iter};
 
 // What came over the whole script.
 #[derive(Clone, Copy, Default)]
 struct Totals {
-    heard: u64,
-    refused: u64,
-    sent: u64,
+    heard: Saturating<u64>,
+    refused: Saturating<u64>,
+    sent: Saturating<u64>,
 }
 
 impl fmt::Display for Totals {
@@ -35,7 +36,7 @@ struct Script {
     tree: Tree,
     bursts: Vec<Burst>,
     // cells since the line was new
-    cells: u64,
+    cells: Saturating<u64>,
     totals: Totals,
     // what is to be printed
     out: String,
@@ -49,7 +50,7 @@ impl Script {
             heap,
             tree: Tree::new(heap)?,
             bursts: Vec::with_capacity(heap, ROOM)?,
-            cells: 0,
+            cells: Saturating(0),
             totals: Totals::default(),
             out: String::new(heap),
         })
@@ -78,7 +79,7 @@ impl Script {
     fn tell_bursts(&mut self, from: usize) -> Result<(), AllocError> {
         let cell = self.cells;
         let new = self.bursts.as_slice().get(from..).unwrap_or(&[]);
-        self.totals.sent = self.totals.sent.saturating_add(new.len() as u64);
+        self.totals.sent += new.len() as u64;
         for burst in new {
             writeln!(self.out, "{cell}: {}", ShownBurst(burst))?;
         }
@@ -97,8 +98,8 @@ impl Script {
     }
 
     fn hear(&mut self, slot: u64, payload: &[u8]) -> Result<(), AllocError> {
-        self.cells = self.cells.saturating_add(1);
-        self.totals.heard = self.totals.heard.saturating_add(1);
+        self.cells += 1;
+        self.totals.heard += 1;
         let before = self.states();
         let from = self.bursts.len();
         match self.tree.hear(payload, slot, &mut self.bursts) {
@@ -107,7 +108,7 @@ impl Script {
                 self.tell_moves(&before)
             }
             Err(fault) => {
-                self.totals.refused = self.totals.refused.saturating_add(1);
+                self.totals.refused += 1;
                 let cell = self.cells;
                 writeln!(self.out, "{cell}: refused {}", fault.number())
             }

@@ -25,7 +25,7 @@ use Rattle.upstream.specs.declared.message.Upstream.TheVariants.{
 use Rattle.upstream.specs.declared.fault.UpstreamField.TheVariants.{ZeroByte, SequenceBits, Line}
 use Rattle.upstream.specs.declared.fault.UpstreamFault.{UpstreamFault}
 use Rattle.upstream.specs.declared.fault.UpstreamFault.TheVariants.{UnknownIdentifier, WrongSource, OutOfRange}
-use Rattle.field.specs.Bytes.{at, then, word_of, word_bytes, serial_of, serial_bytes, plain_bytes, ten_of}
+use Rattle.field.specs.Bytes.{at, then, word_of, word_bytes, serial_of, serial_bytes, plain_bytes, with_ten_bytes, ten_of}
 
 -- a message, or the first reason why there is none
 abbrev pub Reading : Type 0
@@ -102,7 +102,7 @@ abbrev pub big_key_bytes : Bounded 0 63 → (index fragment : ℕ) → Octets 8 
 big_key_bytes p index fragment body = p.value ∷ 6 ∷ index ∷ fragment ∷ picked 0 8 body.bytes
 
 abbrev pub ten_bytes : Bounded 0 63 → ℕ → Octets 10 → List ℕ
-ten_bytes p identifier body = p.value ∷ identifier ∷ picked 0 10 body.bytes
+ten_bytes p identifier body = with_ten_bytes p.value identifier body
 
 abbrev pub rei_bytes : Bounded 0 63 → Number 4294967295 → Bounded 0 15 → List ℕ
 rei_bytes p errors sequence = p.value ∷ 128 ∷ word_bytes errors.value ++ sequence.value ∷ replicate 5 0

@@ -19,14 +19,14 @@ pub enum UpstreamFault {
     OutOfRange(UpstreamField),
 }
 
-impl UpstreamField {
-    // The field's name, as the readable form of a message has it.
-    fn name(self) -> &'static str {
-        match self {
+// The field's name, as the readable form of a message has it.
+impl fmt::Display for UpstreamField {
+    fn fmt<W: fmt::Write>(&self, f: &mut fmt::Formatter<W>) -> fmt::Result {
+        f.write_str(match self {
             UpstreamField::ZeroByte => "zero",
             UpstreamField::SequenceBits => "sequence",
             UpstreamField::Line => "line",
-        }
+        })
     }
 }
 
@@ -38,10 +38,7 @@ impl fmt::Display for UpstreamFault {
                 "unknown identifier {identifier}"
             ),
             UpstreamFault::WrongSource(source) => write!(f, "wrong source {source}"),
-            UpstreamFault::OutOfRange(field) => {
-                let name = field.name();
-                write!(f, "{name} out of range")
-            }
+            UpstreamFault::OutOfRange(field) => write!(f, "{field} out of range"),
         }
     }
 }

@@ -4,7 +4,7 @@ ghost use Rattle.message.specs.Downstream.{address_byte, access_bytes, rx_bytes,
 
 use crate::downstream::{Access, Address, Allocation, Downstream, RxPart};
 use field::bounded::{Guard, PonId, VendorKind};
-use field::bytes::{plain, with_serial};
+use field::bytes::{plain, with_serial, with_ten};
 use field::delay::Delay;
 use field::minislot::Minislot;
 use field::octets::Octets;
@@ -123,21 +123,7 @@ fn configure_vp_vc(pon_id: PonId, active: bool, header: Octets<4>, mask: Octets<
 fn vendor_specific(to: Address, kind: VendorKind, body: Octets<10>) -> [u8; 12]
     ensures { result ≡ vendor_bytes to kind body }
 {
-    let b = body.bytes();
-    [
-        to.byte(),
-        0x78 + kind.value(),
-        b[0],
-        b[1],
-        b[2],
-        b[3],
-        b[4],
-        b[5],
-        b[6],
-        b[7],
-        b[8],
-        b[9],
-    ]
+    with_ten(to.byte(), 0x78 + kind.value(), body)
 }
 
 pub(super) fn bytes(message: Downstream) -> [u8; 12]

@@ -1,6 +1,5 @@
 // The fields of a message to the ONUs, taken from the words after its name.
-ghost use Rattle.std.specs.Prelude.{◌≡◌, IfOk};
-ghost use Rattle.readable.specs.Names.{kind_of};
+ghost use Rattle.readable.specs.Names.{OfKind};
 
 use crate::key::Key;
 use crate::kind::Kind;
@@ -13,7 +12,7 @@ use message::downstream::{Access, Allocation, Downstream, RxPart};
 
 impl Words<'_> {
     fn rx_control(&mut self) -> Result<Downstream, Wanted>
-        ensures { IfOk result (λ m. kind_of m ≡ Kind.UpstreamRxControl) }
+        ensures { OfKind Kind.UpstreamRxControl result }
     {
         let part = if self.field(Key::Part)? {
             RxPart::Second(self.field(Key::Bytes)?)
@@ -24,7 +23,7 @@ impl Words<'_> {
     }
 
     fn upstream_overhead(&mut self) -> Result<Downstream, Wanted>
-        ensures { IfOk result (λ m. kind_of m ≡ Kind.UpstreamOverhead) }
+        ensures { OfKind Kind.UpstreamOverhead result }
     {
         Ok(Downstream::UpstreamOverhead {
             guard: self.field(Key::Guard)?,
@@ -34,7 +33,7 @@ impl Words<'_> {
     }
 
     fn ranging_time(&mut self) -> Result<Downstream, Wanted>
-        ensures { IfOk result (λ m. kind_of m ≡ Kind.RangingTime) }
+        ensures { OfKind Kind.RangingTime result }
     {
         Ok(Downstream::RangingTime {
             pon_id: self.field(Key::PonId)?,
@@ -43,7 +42,7 @@ impl Words<'_> {
     }
 
     fn serial_number_mask(&mut self) -> Result<Downstream, Wanted>
-        ensures { IfOk result (λ m. kind_of m ≡ Kind.SerialNumberMask) }
+        ensures { OfKind Kind.SerialNumberMask result }
     {
         Ok(Downstream::SerialNumberMask {
             bits: self.field(Key::Bits)?,
@@ -52,7 +51,7 @@ impl Words<'_> {
     }
 
     fn assign_pon_id(&mut self) -> Result<Downstream, Wanted>
-        ensures { IfOk result (λ m. kind_of m ≡ Kind.AssignPonId) }
+        ensures { OfKind Kind.AssignPonId result }
     {
         Ok(Downstream::AssignPonId {
             pon_id: self.field(Key::PonId)?,
@@ -61,7 +60,7 @@ impl Words<'_> {
     }
 
     fn disable_serial_number(&mut self) -> Result<Downstream, Wanted>
-        ensures { IfOk result (λ m. kind_of m ≡ Kind.DisableSerialNumber) }
+        ensures { OfKind Kind.DisableSerialNumber result }
     {
         let access = match self.text(Key::Access) {
             Some("deny") => Access::Deny(self.serial()?),
@@ -73,7 +72,7 @@ impl Words<'_> {
     }
 
     fn churning_key_update(&mut self) -> Result<Downstream, Wanted>
-        ensures { IfOk result (λ m. kind_of m ≡ Kind.ChurningKeyUpdate) }
+        ensures { OfKind Kind.ChurningKeyUpdate result }
     {
         Ok(Downstream::ChurningKeyUpdate {
             pon_id: self.field(Key::PonId)?,
@@ -90,7 +89,7 @@ impl Words<'_> {
     }
 
     fn grant_allocation(&mut self) -> Result<Downstream, Wanted>
-        ensures { IfOk result (λ m. kind_of m ≡ Kind.GrantAllocation) }
+        ensures { OfKind Kind.GrantAllocation result }
     {
         Ok(Downstream::GrantAllocation {
             pon_id: self.field(Key::PonId)?,
@@ -115,7 +114,7 @@ impl Words<'_> {
     }
 
     fn divided_slot_grant(&mut self) -> Result<Downstream, Wanted>
-        ensures { IfOk result (λ m. kind_of m ≡ Kind.DividedSlotGrant) }
+        ensures { OfKind Kind.DividedSlotGrant result }
     {
         let pon_id = self.field(Key::PonId)?;
         let active = self.field(Key::Active)?;
@@ -131,7 +130,7 @@ impl Words<'_> {
     }
 
     fn configure_vp_vc(&mut self) -> Result<Downstream, Wanted>
-        ensures { IfOk result (λ m. kind_of m ≡ Kind.ConfigureVpVc) }
+        ensures { OfKind Kind.ConfigureVpVc result }
     {
         Ok(Downstream::ConfigureVpVc {
             pon_id: self.field(Key::PonId)?,
@@ -142,7 +141,7 @@ impl Words<'_> {
     }
 
     fn churned_vp(&mut self) -> Result<Downstream, Wanted>
-        ensures { IfOk result (λ m. kind_of m ≡ Kind.ChurnedVp) }
+        ensures { OfKind Kind.ChurnedVp result }
     {
         Ok(Downstream::ChurnedVp {
             pon_id: self.field(Key::PonId)?,
@@ -152,7 +151,7 @@ impl Words<'_> {
     }
 
     fn vendor_specific(&mut self) -> Result<Downstream, Wanted>
-        ensures { IfOk result (λ m. kind_of m ≡ Kind.VendorSpecific) }
+        ensures { OfKind Kind.VendorSpecific result }
     {
         Ok(Downstream::VendorSpecific {
             to: self.field(Key::PonId)?,
@@ -162,7 +161,7 @@ impl Words<'_> {
     }
 
     fn pst(&mut self) -> Result<Downstream, Wanted>
-        ensures { IfOk result (λ m. kind_of m ≡ Kind.Pst) }
+        ensures { OfKind Kind.Pst result }
     {
         Ok(Downstream::Pst {
             line: self.field(Key::Line)?,
@@ -172,7 +171,7 @@ impl Words<'_> {
     }
 
     fn ber_interval(&mut self) -> Result<Downstream, Wanted>
-        ensures { IfOk result (λ m. kind_of m ≡ Kind.BerInterval) }
+        ensures { OfKind Kind.BerInterval result }
     {
         Ok(Downstream::BerInterval {
             pon_id: self.field(Key::PonId)?,
@@ -182,7 +181,7 @@ impl Words<'_> {
 
     // A message of that kind.
     pub(crate) fn message(&mut self, kind: Kind) -> Result<Downstream, Wanted>
-        ensures { IfOk result (λ m. kind_of m ≡ kind) }
+        ensures { OfKind kind result }
     {
         match kind {
             Kind::NoMessage => Ok(Downstream::NoMessage),

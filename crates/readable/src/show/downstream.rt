@@ -56,9 +56,9 @@ impl fmt::Display for Fields<Downstream> {
 
     fn fmt<W: fmt::Write>(&self, f: &mut fmt::Formatter<W>) -> fmt::Result {
         match self.0 {
-            Downstream::NoMessage => Ok(()),
-            Downstream::PhysicalEquipmentError => Ok(()),
-            Downstream::Popup => Ok(()),
+            Downstream::NoMessage | Downstream::PhysicalEquipmentError | Downstream::Popup => Ok(
+                (),
+            ),
             Downstream::UpstreamRxControl { part } => write!(f, "{}", Fields(part)),
             Downstream::UpstreamOverhead {
                 guard,
@@ -91,16 +91,8 @@ impl fmt::Display for Fields<Downstream> {
             ),
             Downstream::DeactivatePonId { to } => write!(f, "{}", Keyed(Key::PonId, Shown(to))),
             Downstream::DisableSerialNumber { access } => write!(f, "{}", Fields(access)),
-            Downstream::NewChurningKeyRequest { pon_id } => write!(
-                f,
-                "{}",
-                Keyed(Key::PonId, pon_id.value())
-            ),
-            Downstream::RequestPassword { pon_id } => write!(
-                f,
-                "{}",
-                Keyed(Key::PonId, pon_id.value())
-            ),
+            Downstream::NewChurningKeyRequest { pon_id } | Downstream::RequestPassword { pon_id } =>
+                write!(f, "{}", Keyed(Key::PonId, pon_id.value())),
             Downstream::ChurningKeyUpdate { pon_id, count } => write!(
                 f,
                 "{}{}",

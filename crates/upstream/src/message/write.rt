@@ -1,10 +1,10 @@
 // The twelve bytes of a message from an ONU; unspecified bytes are 0.
 ghost use Rattle.std.specs.Prelude.{◌≡◌};
-ghost use Rattle.upstream.specs.Message.{source_byte, acknowledge_bytes, big_key_bytes, ten_bytes, rei_bytes, bytes_of};
+ghost use Rattle.upstream.specs.Message.{source_byte, acknowledge_bytes, big_key_bytes, rei_bytes, bytes_of};
 
 use crate::message::Upstream;
 use field::bounded::{PonId, Sequence};
-use field::bytes::{plain, with_serial};
+use field::bytes::{plain, with_serial, with_ten};
 use field::number::Count;
 use field::octets::Octets;
 
@@ -54,27 +54,6 @@ fn big_key(source: PonId, index: u8, fragment: u8, body: Octets<8>) -> [u8; 12]
     ]
 }
 
-// A password or a vendor's own ten bytes.
-fn with_ten(source: PonId, identifier: u8, body: Octets<10>) -> [u8; 12]
-    ensures { result ≡ ten_bytes source identifier body }
-{
-    let b = body.bytes();
-    [
-        source.value(),
-        identifier,
-        b[0],
-        b[1],
-        b[2],
-        b[3],
-        b[4],
-        b[5],
-        b[6],
-        b[7],
-        b[8],
-        b[9],
-    ]
-}
-
 fn rei(source: PonId, errors: Count, sequence: Sequence) -> [u8; 12]
     ensures { result ≡ rei_bytes source errors sequence }
 {
@@ -115,7 +94,7 @@ pub(super) fn bytes(message: Upstream) -> [u8; 12]
             0,
             serial,
         ),
-        Upstream::Password { source, password } => with_ten(source, 0x04, password),
+        Upstream::Password { source, password } => with_ten(source.value(), 0x04, password),
         Upstream::PhysicalEquipmentError { source } => plain(source.value(), 0x05, [0; 4]),
         Upstream::BigKey {
             source,
@@ -124,7 +103,7 @@ pub(super) fn bytes(message: Upstream) -> [u8; 12]
             body,
         } => big_key(source, index, fragment, body),
         Upstream::VendorSpecific { source, kind, body } => with_ten(
-            source,
+            source.value(),
             0x78 + kind.value(),
             body,
         ),
