@@ -3,13 +3,13 @@ use crate::vector::Kind;
 use cell::fault::{CellFault, FrameFault};
 use field::check::check_byte;
 use field::coded::Coded;
+use keyed::hex::push_digits;
 use payload::contents::Contents;
 use payload::contents::read::read_cell;
 use payload::contents::write::write_cell;
 use payload::frame::Frame;
 use payload::frame::read::read_frame;
 use payload::frame::write::write_frame;
-use readable::hex::push_digits;
 use readable::show;
 use std::alloc::{AllocError, Global};
 use upstream::fault::UpstreamFault;
@@ -74,7 +74,7 @@ impl Stored for Upstream {
     type Fault = UpstreamFault;
 
     fn show(&self, out: &mut String) -> Result<(), AllocError> {
-        show::uplink::message(out, self)
+        uplink::message(out, self)
     }
 
     fn push(&self, out: &mut String) -> Result<(), AllocError> {
@@ -83,7 +83,7 @@ impl Stored for Upstream {
 
     fn refuse(out: &mut String, fault: UpstreamFault) -> Result<(), AllocError> {
         out.push_str("fault 17 ")?;
-        show::uplink::fault(out, fault)
+        uplink::fault(out, fault)
     }
 }
 

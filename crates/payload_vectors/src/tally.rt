@@ -1,8 +1,7 @@
 // How many vectors there were, and how many were answered otherwise.
 use crate::answer::Answer;
 use crate::vector::{Kind, Vector};
-use readable::hex;
-use readable::hex::NotHex;
+use keyed::hex::{self, NotHex};
 use std::alloc::{AllocError, Global};
 use std::fmt;
 use std::num::Saturating;

@@ -4,11 +4,11 @@ use crate::report;
 use crate::report::Source;
 use crate::tally::Tally;
 use cell::fault::Place;
+use keyed::hex::{self, NotHex};
 use payload::contents::Contents;
 use payload::contents::read::read_cell;
-use readable::hex::NotHex;
 use readable::kind::Kind;
-use readable::{hex, show};
+use readable::show;
 use std::alloc::{AllocError, Global};
 
 #[derive(Drop)]

@@ -3,11 +3,11 @@ ghost use Rattle.std.specs.Prelude.{◌≡◌};
 ghost use Rattle.payload.specs.Cell.{cell_bytes};
 
 use crate::lines::Answers;
+use cell_line::line::Cell;
 use field::grants::Grants;
+use keyed::hex;
 use payload::contents::Contents;
 use payload::contents::write::write_cell;
-use readable::hex;
-use readable::line::Cell;
 use std::alloc::AllocError;
 
 #[derive(Clone, Copy)]

@@ -1,3 +1,2 @@
-mod Hexes
 mod Places
 mod Runs

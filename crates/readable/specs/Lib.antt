@@ -1,4 +1,3 @@
 pub mod Names
 pub mod Shown
 pub mod Fault
-pub mod Upstream

@@ -1,51 +1,20 @@
 -- Texts: what the fields of a message say, the message, a cell and a frame.
-use Rattle.std.specs.Prelude.{ℕ, ◌+◌, ◌/◌, ◌%◌, Bool, cond, List, [], ◌∷◌, ◌++◌, codes, decimal, ◌==◌}
-use Rattle.std.specs.Char.{digit_char}
-use Rattle.field.specs.Bytes.{number_bytes}
+use Rattle.std.specs.Prelude.{ℕ, ◌+◌, Bool, cond, List, [], ◌∷◌, ◌++◌, codes, decimal, ◌==◌}
 use Rattle.field.specs.Grant.{code_of}
 use Rattle.field.specs.declared.grant.Grant.{Grant}
 use Rattle.field.specs.declared.grant.Grant.TheVariants.{Code, Ranging, Unassigned, Idle}
 use Rattle.message.specs.declared.downstream.Access.{Access}
 use Rattle.message.specs.declared.downstream.Access.TheVariants.{Deny, AllowAll, Allow}
-use Rattle.message.specs.declared.downstream.Address.{Address}
-use Rattle.message.specs.declared.downstream.Address.TheVariants.{One, All}
 use Rattle.message.specs.declared.downstream.RxPart.{RxPart}
 use Rattle.message.specs.declared.downstream.RxPart.TheVariants.{First, Second}
 use Rattle.message.specs.declared.downstream.Downstream.{Downstream}
 use Rattle.message.specs.declared.downstream.Downstream.TheVariants as sent
 use Rattle.message.specs.declared.fault.MessageFault.{MessageFault}
 use Rattle.message.specs.declared.fault.MessageFault.TheVariants.{UnknownIdentifier, WrongAddress, OutOfRange}
-use Rattle.readable.specs.declared.key.Key.{Key}
-use Rattle.readable.specs.declared.key.Key.TheVariants as key
-use Rattle.readable.specs.Names.{key_name, kind_name, kind_of, key_of}
-
--- two lowercase digits for each byte
-unfoldable pub hexed : List ℕ → List ℕ
-hexed [] = []
-hexed (b ∷ bytes) = digit_char (b / 16) ∷ digit_char (b % 16) ∷ hexed bytes
-
--- A field is a key with a text.
-abbrev pub Field : Type 0
-Field = Key × List ℕ
-
-abbrev pub number : Key → ℕ → Field
-number k n = (k, decimal n)
-
-abbrev pub flag : Key → Bool → Field
-flag k b = (k, cond b (codes "1") (codes "0"))
-
-abbrev pub octets : Key → List ℕ → Field
-octets k bytes = (k, hexed bytes)
-
-abbrev pub serial : ℕ → Field
-serial n = octets key.Serial (number_bytes n)
-
-abbrev pub address_text : Address → List ℕ
-address_text (One p) = decimal p.value
-address_text All = codes "all"
-
-abbrev pub address : Address → Field
-address to = (key.PonId, address_text to)
+use Rattle.keyed.specs.declared.key.Key.TheVariants as key
+use Rattle.keyed.specs.Names.{key_name, key_of}
+use Rattle.keyed.specs.Fields.{Field, number, flag, octets, serial, address, fields_text}
+use Rattle.readable.specs.Names.{kind_name, kind_of}
 
 abbrev pub access : Access → List Field
 access (Deny n) = (key.Access, codes "deny") ∷ serial n.value ∷ []
@@ -84,15 +53,6 @@ fields_of sent.Popup = []
 fields_of (sent.VendorSpecific to kind body) = address to ∷ number key.Kind kind.value ∷ octets key.Bytes body.bytes ∷ []
 fields_of (sent.Pst line k1 k2) = number key.Line line.value ∷ octets key.K1 (k1 ∷ []) ∷ octets key.K2 (k2 ∷ []) ∷ []
 fields_of (sent.BerInterval p frames) = number key.PonId p.value ∷ number key.Frames frames.value ∷ []
-
--- what stands before a value: a blank, the key and its sign
-abbrev pub key_text : Key → List ℕ
-key_text k = codes " " ++ (key_name k ++ codes "=")
-
--- fields one after another
-abbrev pub fields_text : List Field → List ℕ
-fields_text [] = []
-fields_text (f ∷ fields) = (key_text f.0 ++ f.1) ++ fields_text fields
 
 -- the name of a message and its fields
 abbrev pub message_text : Downstream → List ℕ

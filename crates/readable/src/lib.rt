@@ -1,11 +1,6 @@
-// Cells and their messages as lines of text, and such lines read back.
+// Cells, frames, messages to the ONUs and faults as text.
 #![tactic(auto)]
 
-pub mod hex;
-pub mod key;
 pub mod kind;
-pub mod line;
-mod parse;
-mod run;
+pub mod run;
 pub mod show;
-pub mod wanted;

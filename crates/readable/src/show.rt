@@ -3,10 +3,11 @@ ghost use Rattle.std.specs.Prelude.{◌≡◌, Some, string_bytes, OnOk};
 ghost use Rattle.readable.specs.Names.{kind_name, kind_of};
 ghost use Rattle.readable.specs.Shown.{message_text, fault_text, with_message, with_grants, with_cell, with_frame, with_fault};
 
-use crate::key::Key;
 use crate::kind::Kind;
-use crate::show::value::{Fields, Keyed, Shown};
+use crate::show::downstream::Fields;
 use field::grant::Grant;
+use keyed::key::Key;
+use keyed::value::{Keyed, Shown};
 use message::downstream::Downstream;
 use message::fault::MessageFault;
 use std::alloc::AllocError;
@@ -14,14 +15,16 @@ use std::fmt;
 
 mod downstream;
 pub mod fault;
-pub mod uplink;
-pub(crate) mod value;
+
+// Something of another crate that a line tells.
+#[derive(Clone, Copy)]
+pub(crate) struct Text<T>(pub(crate) T);
 
 // Appends the grants, each run of equal ones once: `5*3,69,idle*2`.
 pub fn grant_runs(out: &mut String, grants: &[Grant]) -> Result<(), AllocError>
     ensures { OnOk result (string_bytes out.new ≡ with_grants (string_bytes out.old) grants.now) }
 {
-    write!(out, "{}", Shown(grants))
+    write!(out, "{}", Text(grants))
 }
 
 // The name of the message's kind.
@@ -31,7 +34,7 @@ pub fn name(message: &Downstream) -> &'static str
     Kind::from(message).name()
 }
 
-impl fmt::Display for Shown<Downstream> {
+impl fmt::Display for Text<Downstream> {
     ghost output = { λ message. Some (message_text message.0) };
 
     fn fmt<W: fmt::Write>(&self, f: &mut fmt::Formatter<W>) -> fmt::Result {
@@ -43,7 +46,7 @@ impl fmt::Display for Shown<Downstream> {
 pub fn message(out: &mut String, message: &Downstream) -> Result<(), AllocError>
     ensures { OnOk result (string_bytes out.new ≡ with_message (string_bytes out.old) message.now) }
 {
-    write!(out, "{}", Shown(*message))
+    write!(out, "{}", Text(*message))
 }
 
 // Appends a whole cell.
@@ -59,8 +62,8 @@ pub fn cell(
         out,
         "cell{}{} {}",
         Keyed(Key::Bit, Shown(first)),
-        Keyed(Key::Grants, Shown(grants)),
-        Shown(*contents)
+        Keyed(Key::Grants, Text(grants)),
+        Text(*contents)
     )
 }
 
@@ -76,13 +79,13 @@ pub fn frame(
     write!(
         out,
         "frame{} {} ; {}",
-        Keyed(Key::Grants, Shown(grants)),
-        Shown(*first),
-        Shown(*second)
+        Keyed(Key::Grants, Text(grants)),
+        Text(*first),
+        Text(*second)
     )
 }
 
-impl fmt::Display for Shown<MessageFault> {
+impl fmt::Display for Text<MessageFault> {
     ghost output = { λ fault. Some (fault_text fault.0) };
 
     fn fmt<W: fmt::Write>(&self, f: &mut fmt::Formatter<W>) -> fmt::Result {
@@ -98,5 +101,5 @@ impl fmt::Display for Shown<MessageFault> {
 pub fn message_fault(out: &mut String, fault: MessageFault) -> Result<(), AllocError>
     ensures { OnOk result (string_bytes out.new ≡ with_fault (string_bytes out.old) fault) }
 {
-    write!(out, "{}", Shown(fault))
+    write!(out, "{}", Text(fault))
 }

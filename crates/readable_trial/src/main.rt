@@ -3,10 +3,10 @@
 // one that begins with `upstream` has the twelve bytes of a message from an ONU.
 #![tactic(auto)]
 
+use cell_line::line::Cell;
 use field::coded::Coded;
-use readable::hex::NotHex;
-use readable::line::Cell;
-use readable::{hex, show};
+use keyed::hex::{self, NotHex};
+use readable::show;
 use std::alloc::{AllocError, Global};
 use std::io;
 use std::io::{BufRead, BufReader};
@@ -27,8 +27,8 @@ fn push_upstream(out: &mut String, bytes: &[u8]) -> Result<(), AllocError> {
         return out.push_str("too short");
     };
     match Upstream::read(twelve) {
-        Ok(message) => show::uplink::message(out, &message),
-        Err(fault) => show::uplink::fault(out, fault),
+        Ok(message) => uplink::message(out, &message),
+        Err(fault) => uplink::fault(out, fault),
     }
 }
 

@@ -1,6 +1,6 @@
 // A line of a script read as a command.
 use crate::tree::{Change, HostEvent, PORTS};
-use readable::hex::{self, NotHex};
+use keyed::hex::{self, NotHex};
 use std::alloc::Global;
 use std::str::{FromStr, SplitWhitespace};
 

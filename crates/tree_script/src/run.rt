@@ -2,9 +2,9 @@
 use crate::command::{Command, NoCommand};
 use crate::shown::{Move, ShownBurst, ShownOnu};
 use crate::tree::{Change, PORTS, Tree};
+use keyed::hex::Digits;
 use onu::state::State;
 use plant::burst::Burst;
-use readable::hex::Digits;
 use receiver::receive::receive;
 use std::alloc::{AllocError, Global};
 use std::io::{BufRead, BufReader};

@@ -1,7 +1,7 @@
 // Bursts and ONUs as text.
+use keyed::hex::Digits;
 use onu::state::{Onu, State};
 use plant::burst::Burst;
-use readable::hex::Digits;
 use report::offset::Offset;
 use std::fmt;
 

@@ -1,12 +1,17 @@
 // The fields of a message to the ONUs.
 ghost use Rattle.std.specs.Prelude.{Some};
-ghost use Rattle.readable.specs.Shown.{fields_text, fields_of, access as access_fields, rx_part};
+ghost use Rattle.keyed.specs.Fields.{fields_text};
+ghost use Rattle.readable.specs.Shown.{fields_of, access as access_fields, rx_part};
 
-use crate::hex::Digits;
-use crate::key::Key;
-use crate::show::value::{Fields, Keyed, Shown};
+use keyed::hex::Digits;
+use keyed::key::Key;
+use keyed::value::{Keyed, Shown};
 use message::downstream::{Access, Downstream, RxPart};
 use std::fmt;
+
+// The fields of a message, each after a blank.
+#[derive(Clone, Copy)]
+pub(crate) struct Fields<M>(pub(crate) M);
 
 impl fmt::Display for Fields<RxPart> {
     ghost output = { λ part. Some (fields_text (rx_part part.0)) };

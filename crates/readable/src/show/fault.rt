@@ -2,7 +2,7 @@
 ghost use Rattle.std.specs.Prelude.{◌≡◌, Some, string_bytes, OnOk};
 ghost use Rattle.readable.specs.Fault.{cell_fault_text, frame_fault_text, with_cell_fault, with_frame_fault};
 
-use crate::show::value::Shown;
+use crate::show::Text;
 use cell::fault::{CellFault, FrameFault, Place};
 use std::alloc::AllocError;
 use std::fmt;
@@ -12,7 +12,7 @@ pub fn appended(res: fmt::Result) -> Result<(), AllocError> {
     res.map_err(|_| AllocError)
 }
 
-impl fmt::Display for Shown<CellFault> {
+impl fmt::Display for Text<CellFault> {
     ghost output = { λ fault. Some (cell_fault_text fault.0) };
 
     fn fmt<W: fmt::Write>(&self, f: &mut fmt::Formatter<W>) -> fmt::Result {
@@ -20,7 +20,7 @@ impl fmt::Display for Shown<CellFault> {
         match self.0 {
             CellFault::Length => f.write_str("length"),
             CellFault::Check(check) => write!(f, "group={}", check.group()),
-            CellFault::Message(why) => write!(f, "{}", Shown(why)),
+            CellFault::Message(why) => write!(f, "{}", Text(why)),
         }
     }
 }
@@ -29,23 +29,23 @@ impl fmt::Display for Shown<CellFault> {
 pub fn cell(out: &mut String, fault: CellFault) -> Result<(), AllocError>
     ensures { OnOk result (string_bytes out.new ≡ with_cell_fault (string_bytes out.old) fault) }
 {
-    write!(out, "{}", Shown(fault))
+    write!(out, "{}", Text(fault))
 }
 
-impl fmt::Display for Shown<FrameFault> {
+impl fmt::Display for Text<FrameFault> {
     ghost output = { λ fault. Some (frame_fault_text fault.0) };
 
     fn fmt<W: fmt::Write>(&self, f: &mut fmt::Formatter<W>) -> fmt::Result {
         match self.0 {
-            FrameFault::Length => write!(f, "{}", Shown(CellFault::Length)),
+            FrameFault::Length => write!(f, "{}", Text(CellFault::Length)),
             FrameFault::Cell {
                 cell: Place::First,
                 fault,
-            } => write!(f, "cell=1 {}", Shown(fault)),
+            } => write!(f, "cell=1 {}", Text(fault)),
             FrameFault::Cell {
                 cell: Place::Second,
                 fault,
-            } => write!(f, "cell=2 {}", Shown(fault)),
+            } => write!(f, "cell=2 {}", Text(fault)),
         }
     }
 }
@@ -54,5 +54,5 @@ impl fmt::Display for Shown<FrameFault> {
 pub fn frame(out: &mut String, fault: FrameFault) -> Result<(), AllocError>
     ensures { OnOk result (string_bytes out.new ≡ with_frame_fault (string_bytes out.old) fault) }
 {
-    write!(out, "{}", Shown(fault))
+    write!(out, "{}", Text(fault))
 }

@@ -1,0 +1,119 @@
+// Bytes as hex digits, two for each byte, and back.
+ghost use Rattle.std.specs.Prelude.{◌≡◌, ◌<◌, ◌++◌, Some, IfSome, string_bytes, OnOk};
+ghost use Rattle.keyed.specs.Fields.{hexed};
+ghost use Rattle.keyed.specs.declared.hex.NotHex.TheVariants.{Memory};
+
+use std::alloc::{AllocError, AllocFailed, Global};
+use std::error::Error;
+use std::fmt;
+
+// Why a line is no run of bytes.
+#[derive(Clone, Copy, Debug, PartialEq, Eq)]
+pub enum NotHex {
+    // something other than two hex digits stands where a byte should
+    Digits,
+    Memory,
+}
+
+impl fmt::Display for NotHex {
+    fn fmt<W: fmt::Write>(&self, f: &mut fmt::Formatter<W>) -> fmt::Result {
+        match self {
+            NotHex::Digits => f.write_str("not hex"),
+            NotHex::Memory => f.write_str("out of memory"),
+        }
+    }
+}
+
+impl Error for NotHex {}
+
+impl From<AllocError> for NotHex {
+    ghost from_gives = { λ _ e. e ≡ Memory };
+
+    fn from(_e: AllocError) -> NotHex {
+        NotHex::Memory
+    }
+}
+
+impl<T: Drop> From<AllocFailed<T>> for NotHex {
+    ghost from_gives = { λ _ e. e ≡ Memory };
+
+    fn from(_e: AllocFailed<T>) -> NotHex {
+        NotHex::Memory
+    }
+}
+
+// Bytes that print as two lowercase digits each.
+#[derive(Clone, Copy)]
+pub struct Digits<'a>(pub &'a [u8]);
+
+impl fmt::Display for Digits<'_> {
+    ghost output = { λ digits. Some (hexed digits.0.now) };
+
+    fn fmt<W: fmt::Write>(&self, f: &mut fmt::Formatter<W>) -> fmt::Result {
+        for &byte in self.0 {
+            write!(f, "{byte:02x}")?;
+        }
+        Ok(())
+    }
+}
+
+// Appends two digits for each byte.
+pub fn push_digits(out: &mut String, bytes: &[u8]) -> Result<(), AllocError>
+    ensures { OnOk result (string_bytes out.new ≡ string_bytes out.old ++ hexed bytes.now) }
+{
+    write!(out, "{}", Digits(bytes))
+}
+
+// What a lowercase digit counts.
+fn digit_value(digit: u8) -> Option<u8>
+    ensures { IfSome result (λ v. v < 16) }
+{
+    match digit {
+        b'0'..=b'9' => Some(digit - b'0'),
+        b'a'..=b'f' => Some(digit - b'a' + 10),
+        _ => None,
+    }
+}
+
+// The byte of two lowercase digits.
+fn byte(high: u8, low: u8) -> Option<u8> {
+    let high = digit_value(high)?;
+    let low = digit_value(low)?;
+    Some(high * 16 + low)
+}
+
+// A text two bytes at a time, if none is left over.
+fn digit_pairs(text: &str) -> Option<&[[u8; 2]]> {
+    match text.as_bytes().as_chunks() {
+        (pairs, []) => Some(pairs),
+        _ => None,
+    }
+}
+
+// Exactly N bytes in lowercase digits, or none.
+pub fn octets<const N: usize>(text: &str) -> Option<[u8; N]> {
+    let pairs = digit_pairs(text).filter(|pairs| pairs.len() == N)?;
+    let mut bytes = [0u8; N];
+    for (place, [high, low]) in bytes.iter_mut().zip(pairs) {
+        *place = byte(*high, *low)?;
+    }
+    Some(bytes)
+}
+
+// Appends the bytes of one word of digits.
+fn push_word(bytes: &mut Vec<u8>, word: &str) -> Result<(), NotHex> {
+    for [high, low] in digit_pairs(word).ok_or(NotHex::Digits)? {
+        let byte = byte(high.to_ascii_lowercase(), low.to_ascii_lowercase());
+        bytes.push(byte.ok_or(NotHex::Digits)?)?;
+    }
+    Ok(())
+}
+
+// The bytes of a line of hex digits, with blanks between bytes or none.
+pub fn bytes(heap: Global, line: &str) -> Result<Vec<u8>, NotHex> {
+    let mut bytes = Vec::new(heap);
+    for word in line.split_whitespace() {
+        push_word(&mut bytes, word)?;
+    }
+    Ok(bytes)
+}
