@@ -24,3 +24,6 @@ pub fn hear_two(
 {
     hear_lawfully(line, payload, first, bursts)
 }
+
+#[cfg(test)]
+mod trials;

@@ -1,4 +1,7 @@
 // Bursts and ONUs as text.
+ghost use Rattle.std.specs.Prelude.{◌≡◌};
+ghost use Rattle.tree_script.specs.Shown.{moved};
+
 use keyed::hex::Digits;
 use onu::state::{Onu, State};
 use plant::burst::Burst;
@@ -27,7 +30,9 @@ pub struct Move {
 
 impl Move {
     // None where there is no ONU, and where its state stayed.
-    pub fn between(old: Option<State>, new: Option<State>) -> Option<Move> {
+    pub fn between(old: Option<State>, new: Option<State>) -> Option<Move>
+        ensures { result ≡ moved old new }
+    {
         let (old, new) = (old?, new?);
         (old != new).then_some(Move { old, new })
     }

@@ -1,4 +1,10 @@
 // A line with 65 ports behind a common fibre and a common drop.
+ghost use Rattle.std.specs.Prelude.{◌≡◌, ℕ, false, length, None, IfOk, OnErr, nat_eq};
+ghost use Rattle.field.specs.Number.{capped};
+ghost use Rattle.plant.specs.Hearing.{asked, room_in};
+ghost use Rattle.plant.specs.Lawful.{by_move};
+ghost use Rattle.tree_script.specs.Tree.{onu_in, line_means, port_at, onu_of, host_move, onu_after, bits_after, pattern_after, PortChanged};
+
 use bench::bench_onu::BenchOnu;
 use fibre::{Fibre, FibreBits};
 use field::number::SerialNumber;
@@ -46,11 +52,17 @@ pub enum HostEvent {
     Trip(u64),
 }
 
-fn empty_port() -> Port {
+fn empty_port() -> Port
+    ensures plant { result.plant.plant.plant ≡ None }
+    ensures bits { result.plant.bits ≡ capped 32000 0 }
+    ensures pattern { result.pattern ≡ 0 }
+{
     LossyDrop::new(Fibre::new(Outlet { plant: None }, 0), 0)
 }
 
-fn happen(onu: &mut BenchOnu, event: HostEvent) {
+fn happen(onu: &mut BenchOnu, event: HostEvent)
+    ensures { onu.new.machine.onu ≡ by_move (host_move event) onu.old.machine.onu }
+{
     match event {
         HostEvent::SignalLost => onu.lose_signal(),
         HostEvent::SignalBack => onu.regain_signal(),
@@ -59,7 +71,11 @@ fn happen(onu: &mut BenchOnu, event: HostEvent) {
     }
 }
 
-fn change_port(port: &mut Port, change: Change) {
+fn change_port(port: &mut Port, change: Change)
+    ensures onu { onu_in port.new ≡ onu_after change (onu_in port.old) }
+    ensures bits { port.new.plant.bits ≡ bits_after change port.old.plant.bits }
+    ensures pattern { port.new.pattern ≡ pattern_after change port.old.pattern }
+{
     match change {
         Change::Plug { serial, trip } => {
             let onu = BenchOnu::new(SerialNumber::saturating(serial), trip);
@@ -75,13 +91,19 @@ fn change_port(port: &mut Port, change: Change) {
     }
 }
 
-fn plugged(port: &Port) -> Option<Onu> {
+fn plugged(port: &Port) -> Option<Onu>
+    ensures { result ≡ onu_in port.now }
+{
     port.plant.plant.plant.as_ref().map(|onu| onu.look())
 }
 
 impl Tree {
     // All ports empty.
-    pub fn new(heap: Global) -> Result<Tree, AllocError> {
+    pub fn new(heap: Global) -> Result<Tree, AllocError>
+        ensures feeder { IfOk result (λ t. (t.line.bits ≡ capped 32000 0) × (t.line.plant.pattern ≡ 0)) }
+        ensures arms { IfOk result (λ t. length t.line.plant.plant.one.arms.items ≡ 64) }
+        ensures empty { IfOk result (λ t. (n : ℕ) → onu_of (port_at n t) ≡ None) }
+    {
         let arms = (0..LAST).map(|_| empty_port()).collect(heap)?;
         let ports = Splitter::new(Star::new(arms), empty_port());
         Ok(Tree {
@@ -89,7 +111,12 @@ impl Tree {
         })
     }
 
-    pub fn change(&mut self, port: usize, change: Change) {
+    pub fn change(&mut self, port: usize, change: Change)
+        ensures port { PortChanged change (port_at port self.old) (port_at port self.new) }
+        ensures others { (n : ℕ) → nat_eq n port ≡ false → port_at n self.new ≡ port_at n self.old }
+        ensures bits { self.new.line.bits ≡ self.old.line.bits }
+        ensures pattern { self.new.line.plant.pattern ≡ self.old.line.plant.pattern }
+    {
         if port == LAST {
             change_port(&mut self.line.plant.plant.two, change);
         } else if let Some(arm) = self.line.plant.plant.one.arms.get_mut(port) {
@@ -98,7 +125,9 @@ impl Tree {
     }
 
     // The ONU in a port, as it is now.
-    pub fn look(&self, port: usize) -> Option<Onu> {
+    pub fn look(&self, port: usize) -> Option<Onu>
+        ensures { result ≡ onu_of (port_at port self.now) }
+    {
         if port == LAST {
             plugged(&self.line.plant.plant.two)
         } else {
@@ -106,11 +135,18 @@ impl Tree {
         }
     }
 
-    pub fn set_feeder(&mut self, bits: u64) {
+    pub fn set_feeder(&mut self, bits: u64)
+        ensures bits { self.new.line.bits ≡ capped 32000 bits }
+        ensures plant { self.new.line.plant ≡ self.old.line.plant }
+    {
         self.line.bits = FibreBits::saturating(bits);
     }
 
-    pub fn set_feeder_pattern(&mut self, pattern: u64) {
+    pub fn set_feeder_pattern(&mut self, pattern: u64)
+        ensures pattern { self.new.line.plant.pattern ≡ pattern }
+        ensures bits { self.new.line.bits ≡ self.old.line.bits }
+        ensures ports { self.new.line.plant.plant ≡ self.old.line.plant.plant }
+    {
         self.line.plant.pattern = pattern;
     }
 
@@ -119,7 +155,10 @@ impl Tree {
         payload: &[u8],
         first: u64,
         bursts: &mut Vec<Burst>,
-    ) -> Result<(), HearFault> {
+    ) -> Result<(), HearFault>
+        ensures answer { result ≡ asked (length payload.now) (room_in bursts.old) (length (line_means self.old)) first }
+        ensures kept { OnErr result ((self.new ≡ self.old) × (bursts.new.items ≡ bursts.old.items)) }
+    {
         self.line.hear(payload, first, bursts)
     }
 }

@@ -1,0 +1,11 @@
+-- What is told of an ONU's states.
+use Rattle.std.specs.Prelude.{cond, Some, None, Option, ◌==◌}
+use Rattle.onu.specs.Onu.{number}
+use Rattle.onu.specs.declared.state.State.{State}
+use Rattle.tree_script.specs.declared.shown.Move.{Move}
+
+-- one state left for another, where there was an ONU and still is
+abbrev pub moved : (old new : Option State) → Option Move
+moved None new = None
+moved (Some a) None = None
+moved (Some a) (Some b) = cond (number a == number b) None (Some (record { old = a; new = b }))

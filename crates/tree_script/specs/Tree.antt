@@ -1,0 +1,77 @@
+-- A line with 65 ports: what stands in a port, what the host makes of it, and whom the line means.
+use Rattle.std.specs.Prelude.{◌≡◌, ℕ, cond, List, [], ◌∷◌, map, Some, None, Option, option_map, ◌==◌}
+use Rattle.std.specs.List.{slice_get}
+use Rattle.bench.specs.declared.bench_onu.BenchOnu.{BenchOnu}
+use Rattle.fibre.specs.Fibre.{far}
+use Rattle.fibre.specs.declared.Fibre.{Fibre}
+use Rattle.field.specs.Number.{capped}
+use Rattle.field.specs.declared.number.Number.{Number}
+use Rattle.lossy_drop.specs.declared.LossyDrop.{LossyDrop}
+use Rattle.onu.specs.Onu.{new_onu}
+use Rattle.onu.specs.declared.event.OwnEvent.TheVariants.{SignalLoss, SignalReturn, PowerLoss}
+use Rattle.onu.specs.declared.state.Onu.{Onu}
+use Rattle.outlet.specs.Outlet.{plugged}
+use Rattle.outlet.specs.declared.Outlet.{Outlet}
+use Rattle.plant.specs.Lawful.{Move, own, drift, by_move}
+use Rattle.splitter.specs.Splitter.{joined}
+use Rattle.star.specs.Star.{lighted}
+use Rattle.tree_script.specs.declared.tree.Change.{Change}
+use Rattle.tree_script.specs.declared.tree.Change.TheVariants.{Plug, FibreBits, Pattern, Host}
+use Rattle.tree_script.specs.declared.tree.HostEvent.{HostEvent}
+use Rattle.tree_script.specs.declared.tree.HostEvent.TheVariants.{SignalLost, SignalBack, PowerLost, Trip}
+use Rattle.tree_script.specs.declared.tree.Tree.{Tree}
+
+abbrev pub Port : Type 0
+Port = LossyDrop (Fibre (Outlet BenchOnu))
+
+abbrev pub bench_means : BenchOnu → List Onu
+bench_means b = b.machine.onu ∷ []
+
+-- the ONU in a port, without the fibres before it
+abbrev pub onu_in : Port → Option Onu
+onu_in p = option_map (λ (b : BenchOnu). b.machine.onu) p.plant.plant.plant
+
+abbrev pub port_means : Port → List Onu
+port_means p = map (far p.plant.bits.value) (plugged bench_means p.plant.plant.plant)
+
+-- the ONUs of all lit ports as they are seen at the head
+abbrev pub line_means : Tree → List Onu
+line_means t = map (far t.line.bits.value) (joined (lighted port_means [] t.line.plant.plant.one.arms.items) (port_means t.line.plant.plant.two))
+
+-- ports 0 to 63 are the arms of the star, 64 is beside it
+abbrev pub port_at : ℕ → Tree → Option Port
+port_at n t = cond (n == 64) (Some t.line.plant.plant.two) (slice_get t.line.plant.plant.one.arms.items n)
+
+abbrev pub onu_of : Option Port → Option Onu
+onu_of None = None
+onu_of (Some p) = onu_in p
+
+-- what a host's event is to the ONU
+abbrev pub host_move : HostEvent → Move
+host_move SignalLost = own SignalLoss
+host_move SignalBack = own SignalReturn
+host_move PowerLost = own PowerLoss
+host_move (Trip bits) = drift (capped 1000000 bits)
+
+-- a new ONU in place of what was there, or a host's event of the one that is there
+abbrev pub onu_after : Change → Option Onu → Option Onu
+onu_after (Plug serial trip) o = Some (new_onu (capped 18446744073709551615 serial) (capped 1000000 trip))
+onu_after (Host e) o = option_map (by_move (host_move e)) o
+onu_after (FibreBits bits) o = o
+onu_after (Pattern pattern) o = o
+
+abbrev pub bits_after : Change → Number 32000 → Number 32000
+bits_after (FibreBits bits) d = capped 32000 bits
+bits_after _ d = d
+
+abbrev pub pattern_after : Change → ℕ → ℕ
+pattern_after (Pattern pattern) old = pattern
+pattern_after _ old = old
+
+-- what a change makes of the port of its number; a number past the last port changes nothing
+abbrev pub PortChanged : Change → Option Port → Option Port → Type 0
+PortChanged c (Some p) (Some q) =
+    (onu_in q ≡ onu_after c (onu_in p)) × (q.plant.bits ≡ bits_after c p.plant.bits) × (q.pattern ≡ pattern_after c p.pattern)
+PortChanged c None None = Unit {0}
+PortChanged c None (Some q) = ⊥
+PortChanged c (Some p) None = ⊥
