@@ -14,7 +14,8 @@ use Rattle.cell.specs.declared.fault.CheckFault.{CheckFault}
 use Rattle.cell.specs.Reader.{fits, read_of}
 use Rattle.payload.specs.Cell.{grants_in, cell_of, assembled, cell_bytes}
 
-fits_itself : (n : ℕ) (fault : CheckFault) → fits n n fault ≡ Ok tt
+-- a check byte fits what it was made of
+pub fits_itself : (n : ℕ) (fault : CheckFault) → fits n n fault ≡ Ok tt
 fits_itself n fault = let t : eqb n n ≡ true = eq-eqb n n refl in rw t
 
 pub bit_again : (b : Bool) → eqb (flag_byte b % 2) 1 ≡ b
@@ -22,7 +23,7 @@ bit_again true = refl
 bit_again false = refl
 
 -- the bytes of 27 codes and a message that stand written out
-abbrev out : Bool → (codes bytes : List ℕ) → List ℕ
+abbrev pub out : Bool → (codes bytes : List ℕ) → List ℕ
 out first codes bytes = assembled first (picked 0 27 codes) (picked 0 12 bytes)
 
 read_again : (first : Bool) (codes bytes : List ℕ) (m : Downstream) → downstream_of (picked 0 12 bytes) ≡ Ok m → read_of (out first codes bytes) ≡ Ok m

@@ -11,7 +11,8 @@ use Rattle.payload.specs.Cell.{cell_bytes}
 use Rattle.payload.specs.Frame.{joined, frame_of, first_cell, second_cell, frame_bytes}
 use Rattle.payload.proofs.CellAgain.{cell_again, cell-length}
 
-halves_again : (a b : List ℕ) → length a ≡ 48 → length b ≡ 48 → (between 0 48 (a ++ b) ≡ a) × (between 48 96 (a ++ b) ≡ b) × (length (a ++ b) ≡ 96)
+-- the two halves of two cells
+pub halves_again : (a b : List ℕ) → length a ≡ 48 → length b ≡ 48 → (between 0 48 (a ++ b) ≡ a) × (between 48 96 (a ++ b) ≡ b) × (length (a ++ b) ≡ 96)
 halves_again a b h k =
     let l : length b ≤ 48 = omega arith in
     (take_at a b 48 h, ap (take 48) (drop_at a b 48 h) ∙ take_all 48 b l, length-append a b ∙ omega arith)

@@ -1,2 +1,2 @@
-mod Again
+pub mod Again
 mod Parts

@@ -1,0 +1,3 @@
+pub mod Clamps
+pub mod Geometry
+pub mod Turns

@@ -1,0 +1,9 @@
+pub mod Clamp
+pub mod Schedule
+pub mod Settings
+pub mod Row
+pub mod Alarm
+pub mod Job
+pub mod Grant
+pub mod Settle
+pub mod Facts
