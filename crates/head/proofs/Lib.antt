@@ -1,0 +1,2 @@
+mod Settling
+mod Granting

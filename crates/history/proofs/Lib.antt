@@ -1,0 +1,9 @@
+pub mod Stages
+pub mod Silent
+pub mod Table
+pub mod Reports
+pub mod Steps
+pub mod Chain
+pub mod Open
+pub mod Windows
+pub mod Story

@@ -1,0 +1,16 @@
+pub mod Invariant
+pub mod Acts
+pub mod Bursts
+pub mod Hearings
+pub mod Least
+pub mod Rows
+pub mod Tables
+pub mod Written
+pub mod Twins
+pub mod Quiet
+pub mod Cells
+pub mod Drifting
+pub mod Codes
+pub mod Frames
+pub mod Answers
+pub mod Overlap

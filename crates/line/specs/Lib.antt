@@ -1,0 +1,5 @@
+pub mod Calls
+pub mod Payload
+pub mod Independence
+pub mod Run
+pub mod NoOverlap

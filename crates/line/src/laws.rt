@@ -1,0 +1,19 @@
+// The two laws over whole successions of calls.
+ghost use Rattle.line.specs.Independence.{Independence};
+ghost use Rattle.line.specs.NoOverlap.{NoOverlap};
+
+use plant::plant::Plant;
+
+// Whatever the calls, and whatever the plant does lawfully: no two bursts overlap.
+pub fn no_overlap<P: Plant>() -> bool
+    ensures { NoOverlap P.Plant.means P.Plant.does }
+{
+    true
+}
+
+// Whatever reports say in one place's slots, nobody else is told anything else.
+pub fn independence() -> bool
+    ensures { Independence }
+{
+    true
+}
