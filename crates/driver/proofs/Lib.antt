@@ -1,0 +1,3 @@
+pub mod Going
+pub mod Reports
+pub mod Sending
