@@ -3,5 +3,6 @@
 
 mod command;
 pub mod run;
-mod shown;
-mod tree;
+pub mod shown;
+pub mod tree;
+pub mod words;

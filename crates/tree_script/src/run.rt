@@ -1,7 +1,8 @@
 // Scripts run line by line.
-use crate::command::{Command, NoCommand};
+use crate::command::Command;
 use crate::shown::{Move, ShownBurst, ShownOnu};
 use crate::tree::{Change, PORTS, Tree};
+use crate::words::NoCommand;
 use keyed::hex::Digits;
 use onu::state::State;
 use plant::burst::Burst;

@@ -6,6 +6,7 @@ ghost use Rattle.plant.specs.Lawful.{by_move};
 ghost use Rattle.tree_script.specs.Tree.{onu_in, line_means, port_at, onu_of, host_move, onu_after, bits_after, pattern_after, PortChanged};
 
 use bench::bench_onu::BenchOnu;
+use cell::reader::Cell;
 use fibre::{Fibre, FibreBits};
 use field::number::SerialNumber;
 use lossy_drop::LossyDrop;
@@ -160,5 +161,27 @@ impl Tree {
         ensures kept { OnErr result ((self.new ≡ self.old) × (bursts.new.items ≡ bursts.old.items)) }
     {
         self.line.hear(payload, first, bursts)
+    }
+}
+
+impl Plant for Tree {
+    ghost use Rattle.tree_script.specs.Lawful.{tree_does, tree_law, tree_few, tree_sound};
+
+    ghost means = { λ t. line_means t };
+
+    ghost does = { λ s p f t new. tree_does s p f t new };
+
+    ghost few = { λ t. tree_few t };
+
+    ghost sound = { λ t. tree_sound t };
+
+    ghost lawful = { λ s t p f new l h d. tree_law s t p f new l h d };
+
+    fn count(&self) -> usize {
+        self.line.count()
+    }
+
+    fn accept(&mut self, cell: &Cell, first: u64, bursts: &mut Vec<Burst>) {
+        self.line.accept(cell, first, bursts);
     }
 }

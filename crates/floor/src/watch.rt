@@ -1,0 +1,207 @@
+// What is seen of a place, and what changes there.
+use head::head::look::View;
+use report::offset::Offset;
+use report::record::{Light, Record};
+use rules::alarm::{Alarms, Cause};
+use rules::row::Phase;
+use std::fmt;
+
+#[derive(Clone, Copy)]
+pub struct ShownPhase(pub Phase);
+
+impl fmt::Display for ShownPhase {
+    fn fmt<W: fmt::Write>(&self, f: &mut fmt::Formatter<W>) -> fmt::Result {
+        f.write_str(match self.0 {
+            Phase::Empty => "empty",
+            Phase::Held => "held",
+            Phase::Waiting => "waiting",
+            Phase::InService => "in service",
+        })
+    }
+}
+
+#[derive(Clone, Copy)]
+pub struct ShownAlarms(pub Alarms);
+
+impl fmt::Display for ShownAlarms {
+    fn fmt<W: fmt::Write>(&self, f: &mut fmt::Formatter<W>) -> fmt::Result {
+        let Alarms {
+            los,
+            lcd,
+            oaml,
+            cpe,
+            suf,
+        } = self.0;
+        if self.0 == Alarms::none() {
+            return f.write_str(" none");
+        }
+        f.write_str(if los { " LOS" } else { "" })?;
+        f.write_str(if lcd { " LCD" } else { "" })?;
+        f.write_str(if oaml { " OAML" } else { "" })?;
+        f.write_str(if cpe { " CPE" } else { "" })?;
+        f.write_str(if suf { " SUF" } else { "" })
+    }
+}
+
+#[derive(Clone, Copy)]
+struct ShownCause(Cause);
+
+impl fmt::Display for ShownCause {
+    fn fmt<W: fmt::Write>(&self, f: &mut fmt::Formatter<W>) -> fmt::Result {
+        f.write_str(match self.0 {
+            Cause::Los => "loss of signal",
+            Cause::Lcd => "loss of cell delineation",
+            Cause::Oaml => "PLOAM cells missing",
+            Cause::Cpe => "cell phase error",
+        })
+    }
+}
+
+#[derive(Clone, Copy)]
+pub struct ShownView<'a>(pub &'a View);
+
+impl fmt::Display for ShownView<'_> {
+    fn fmt<W: fmt::Write>(&self, f: &mut fmt::Formatter<W>) -> fmt::Result {
+        let View {
+            serial,
+            phase,
+            delay,
+            alarms,
+            cause,
+            failures,
+        } = *self.0;
+        let (serial, phase, alarms) = (serial.value(), ShownPhase(phase), ShownAlarms(alarms));
+        write!(f, "serial {serial:016x} {phase}")?;
+        match delay {
+            Some(delay) => {
+                let bits = delay.value();
+                write!(f, ", delay {bits}")?;
+            }
+            None => f.write_str(", no delay")?,
+        }
+        write!(f, ", alarms{alarms}, failures {failures}")?;
+        match cause {
+            Some(cause) => {
+                let cause = ShownCause(cause);
+                write!(f, ", cause: {cause}")
+            }
+            None => Ok(()),
+        }
+    }
+}
+
+// What happened at a place.
+#[derive(Clone, Copy)]
+pub enum Happened {
+    Phase(Phase),
+    // service ended
+    Ended { cause: Cause, alarms: Alarms },
+    Measured { offset: Offset, delay: u64 },
+    Alarms(Alarms),
+    // rounds that failed with light
+    Failures(u64),
+}
+
+impl fmt::Display for Happened {
+    fn fmt<W: fmt::Write>(&self, f: &mut fmt::Formatter<W>) -> fmt::Result {
+        match *self {
+            Happened::Phase(phase) => {
+                let phase = ShownPhase(phase);
+                write!(f, "{phase}")
+            }
+            Happened::Ended { cause, alarms } => {
+                let (cause, alarms) = (ShownCause(cause), ShownAlarms(alarms));
+                write!(f, "out of service, alarms{alarms}, cause: {cause}")
+            }
+            Happened::Measured { offset, delay } => {
+                write!(f, "measured offset {offset} delay {delay}")
+            }
+            Happened::Alarms(alarms) => {
+                let alarms = ShownAlarms(alarms);
+                write!(f, "alarms{alarms}")
+            }
+            Happened::Failures(failures) => write!(
+                f,
+                "round failed with light, failures {failures}"
+            ),
+        }
+    }
+}
+
+// A place before and after something.
+#[derive(Clone, Copy)]
+pub struct Change<'a> {
+    pub before: &'a Option<View>,
+    pub after: &'a View,
+    // what ended its window in the frame that was settled
+    pub heard: Option<&'a Record>,
+}
+
+impl Change<'_> {
+    fn phase_before(&self) -> Phase {
+        self.before.map_or(Phase::Empty, |view| view.phase)
+    }
+
+    fn failures_before(&self) -> u64 {
+        self.before.map_or(0, |view| view.failures)
+    }
+
+    fn alarms_before(&self) -> Alarms {
+        self.before.map_or(Alarms::none(), |view| view.alarms)
+    }
+
+    fn phase(&self) -> Option<Happened> {
+        let View {
+            phase,
+            cause,
+            alarms,
+            ..
+        } = *self.after;
+        match (self.phase_before(), phase, cause) {
+            (Phase::InService, Phase::Waiting, Some(cause)) => {
+                Some(Happened::Ended { cause, alarms })
+            }
+            (before, now, _) => (before != now).then_some(Happened::Phase(now)),
+        }
+    }
+
+    fn failures(&self) -> Option<Happened> {
+        let failures = self.after.failures;
+        (failures > self.failures_before()).then_some(Happened::Failures(failures))
+    }
+
+    // Its round gave it this delay.
+    fn measured(&self) -> Option<Happened> {
+        let record = self.heard?;
+        let delay = self.after.delay?.value();
+        let bits = match record.offset {
+            Offset::Early(bits) => bits,
+            Offset::Late(0) => 0,
+            Offset::Late(_) => return None,
+        };
+        let failed = self.after.failures > self.failures_before();
+        let here = record.light == Light::Ploam && u64::from(bits) == delay;
+        let offset = record.offset;
+        (here && !failed && self.after.phase == Phase::Waiting).then_some(Happened::Measured {
+            offset,
+            delay,
+        })
+    }
+
+    // New alarms of a place that goes on waiting.
+    fn alarms(&self) -> Option<Happened> {
+        let alarms = self.after.alarms;
+        let same = self.phase_before() == self.after.phase;
+        (same && alarms != self.alarms_before()).then_some(Happened::Alarms(alarms))
+    }
+
+    // In the order in which they are told.
+    pub fn all(&self) -> [Option<Happened>; 4] {
+        [
+            self.measured(),
+            self.failures(),
+            self.phase(),
+            self.alarms(),
+        ]
+    }
+}
