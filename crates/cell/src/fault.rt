@@ -1,6 +1,6 @@
 // Why bytes are no cell or no frame; nothing of a fault is lost on its way up.
-ghost use Rattle.std.specs.Prelude.{◌≡◌};
-ghost use Rattle.cell.specs.Fault.{group_number, cell_refusal, frame_refusal};
+ghost use Rattle.std.specs.Prelude.{◌≡◌, Some};
+ghost use Rattle.cell.specs.Fault.{group_number, cell_refusal, frame_refusal, check_words, cell_words, frame_words};
 ghost use Rattle.cell.specs.declared.fault.CellFault.TheVariants.{Check as CheckOf, Message as MessageOf};
 ghost use Rattle.cell.specs.declared.fault.FrameFault.TheVariants.{Cell as CellOf};
 
@@ -107,6 +107,8 @@ impl FrameFault {
 }
 
 impl fmt::Display for CheckFault {
+    ghost output = { λ fault. Some (check_words fault) };
+
     fn fmt<W: fmt::Write>(&self, f: &mut fmt::Formatter<W>) -> fmt::Result {
         let group = self.group();
         write!(f, "check byte of group {group}")
@@ -114,6 +116,8 @@ impl fmt::Display for CheckFault {
 }
 
 impl fmt::Display for CellFault {
+    ghost output = { λ fault. Some (cell_words fault) };
+
     fn fmt<W: fmt::Write>(&self, f: &mut fmt::Formatter<W>) -> fmt::Result {
         match *self {
             CellFault::Length => f.write_str("length"),
@@ -124,6 +128,8 @@ impl fmt::Display for CellFault {
 }
 
 impl fmt::Display for FrameFault {
+    ghost output = { λ fault. Some (frame_words fault) };
+
     fn fmt<W: fmt::Write>(&self, f: &mut fmt::Formatter<W>) -> fmt::Result {
         match *self {
             FrameFault::Length => f.write_str("length"),

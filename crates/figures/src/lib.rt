@@ -4,8 +4,6 @@
 ghost use Rattle.figures.specs.Figures.{Figures};
 
 // Every figure of the list holds.
-pub fn figures_hold() -> bool
+pub fn figures_hold()
     ensures { Figures }
-{
-    true
-}
+{}

@@ -1,6 +1,6 @@
 // Why a call is refused; a refused call has changed nothing.
-ghost use Rattle.std.specs.Prelude.{◌≡◌};
-ghost use Rattle.head.specs.Refusal.{refusal_number};
+ghost use Rattle.std.specs.Prelude.{◌≡◌, Some};
+ghost use Rattle.head.specs.Refusal.{refusal_number, refusal_words};
 
 use std::error::Error;
 use std::fmt;
@@ -46,6 +46,8 @@ impl Refusal {
 }
 
 impl fmt::Display for Refusal {
+    ghost output = { λ why. Some (refusal_words why) };
+
     fn fmt<W: fmt::Write>(&self, f: &mut fmt::Formatter<W>) -> fmt::Result {
         f.write_str(match *self {
             Refusal::Started => "a frame was sent or an ONU entered",

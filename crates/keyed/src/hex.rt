@@ -1,6 +1,7 @@
 // Bytes as hex digits, two for each byte, and back.
 ghost use Rattle.std.specs.Prelude.{◌≡◌, ◌<◌, ◌++◌, Some, IfSome, string_bytes, OnOk};
 ghost use Rattle.keyed.specs.Fields.{hexed};
+ghost use Rattle.keyed.specs.NotHex.{not_hex_words};
 ghost use Rattle.keyed.specs.declared.hex.NotHex.TheVariants.{Memory};
 
 use std::alloc::{AllocError, AllocFailed, Global};
@@ -16,6 +17,8 @@ pub enum NotHex {
 }
 
 impl fmt::Display for NotHex {
+    ghost output = { λ fault. Some (not_hex_words fault) };
+
     fn fmt<W: fmt::Write>(&self, f: &mut fmt::Formatter<W>) -> fmt::Result {
         match self {
             NotHex::Digits => f.write_str("not hex"),

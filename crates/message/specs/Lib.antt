@@ -1,3 +1,4 @@
 pub mod Downstream
+pub mod Fault
 pub mod Kept
 pub mod Laws

@@ -1,4 +1,7 @@
 // Why twelve bytes are no message.
+ghost use Rattle.std.specs.Prelude.{Some};
+ghost use Rattle.message.specs.Fault.{field_name, fault_words};
+
 use std::fmt;
 
 // A field whose value a message does not allow.
@@ -35,6 +38,8 @@ pub enum MessageFault {
 
 // The field's name, as the readable form of a message has it.
 impl fmt::Display for Field {
+    ghost output = { λ field. Some (field_name field) };
+
     fn fmt<W: fmt::Write>(&self, f: &mut fmt::Formatter<W>) -> fmt::Result {
         f.write_str(match self {
             Field::Part => "part",
@@ -59,6 +64,8 @@ impl fmt::Display for Field {
 }
 
 impl fmt::Display for MessageFault {
+    ghost output = { λ fault. Some (fault_words fault) };
+
     fn fmt<W: fmt::Write>(&self, f: &mut fmt::Formatter<W>) -> fmt::Result {
         match *self {
             MessageFault::UnknownIdentifier(identifier) => write!(

@@ -2,9 +2,7 @@
 ghost use Rattle.onu.specs.Facts.{TableKeeps, StopStands};
 
 // Every event keeps an ONU sound, and one that was told to stop is let go in its two ways alone.
-pub fn table_stands() -> bool
+pub fn table_stands()
     ensures keeps { TableKeeps }
     ensures stop { StopStands }
-{
-    true
-}
+{}

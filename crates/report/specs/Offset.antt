@@ -1,5 +1,5 @@
 -- Offsets from the target, in two's complement of 32 bits.
-use Rattle.std.specs.Prelude.{ℕ, ◌-◌, ◌%◌, cond, Some, None, Option, nat_le, nat_lt}
+use Rattle.std.specs.Prelude.{ℕ, zero, suc, ◌-◌, ◌%◌, cond, List, ◌++◌, Some, None, Option, codes, decimal, nat_le, nat_lt}
 use Rattle.report.specs.declared.offset.Offset.{Offset}
 use Rattle.report.specs.declared.offset.Offset.TheVariants.{Early, Late}
 
@@ -17,3 +17,9 @@ offset_between start due =
     cond (nat_le due start)
     (cond (nat_lt (start - due) 2147483648) (Some (Late (start - due))) None)
     (cond (nat_le (due - start) 2147483648) (Some (Early (due - start))) None)
+
+-- an offset as it is shown: 0 on the target, below 0 before it
+abbrev pub offset_words : Offset → List ℕ
+offset_words (Early zero) = codes "0"
+offset_words (Early (suc n)) = codes "-" ++ decimal (suc n)
+offset_words (Late n) = decimal n

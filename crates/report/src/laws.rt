@@ -2,8 +2,6 @@
 ghost use Rattle.report.specs.Record.{ReadingUndoesWriting};
 
 // A record is read from the bytes that it was written to.
-pub fn reading_undoes_writing() -> bool
+pub fn reading_undoes_writing()
     ensures { ReadingUndoesWriting }
-{
-    true
-}
+{}

@@ -1,6 +1,6 @@
 // How far from its target a burst came.
-ghost use Rattle.std.specs.Prelude.{◌≡◌};
-ghost use Rattle.report.specs.Offset.{offset_of, offset_bits, offset_between};
+ghost use Rattle.std.specs.Prelude.{◌≡◌, Some};
+ghost use Rattle.report.specs.Offset.{offset_of, offset_bits, offset_between, offset_words};
 
 use std::fmt;
 
@@ -52,6 +52,8 @@ impl Offset {
 }
 
 impl fmt::Display for Offset {
+    ghost output = { λ offset. Some (offset_words offset) };
+
     fn fmt<W: fmt::Write>(&self, f: &mut fmt::Formatter<W>) -> fmt::Result {
         match *self {
             Offset::Early(0) => f.write_str("0"),

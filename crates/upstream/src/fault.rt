@@ -1,4 +1,7 @@
 // Why twelve bytes from an ONU are no message.
+ghost use Rattle.std.specs.Prelude.{Some};
+ghost use Rattle.upstream.specs.Fault.{field_name, fault_words};
+
 use std::fmt;
 
 // A field whose value a message does not allow.
@@ -21,6 +24,8 @@ pub enum UpstreamFault {
 
 // The field's name, as the readable form of a message has it.
 impl fmt::Display for UpstreamField {
+    ghost output = { λ field. Some (field_name field) };
+
     fn fmt<W: fmt::Write>(&self, f: &mut fmt::Formatter<W>) -> fmt::Result {
         f.write_str(match self {
             UpstreamField::ZeroByte => "zero",
@@ -31,6 +36,8 @@ impl fmt::Display for UpstreamField {
 }
 
 impl fmt::Display for UpstreamFault {
+    ghost output = { λ fault. Some (fault_words fault) };
+
     fn fmt<W: fmt::Write>(&self, f: &mut fmt::Formatter<W>) -> fmt::Result {
         match *self {
             UpstreamFault::UnknownIdentifier(identifier) => write!(
