@@ -24,6 +24,7 @@ use Rattle.onu.specs.declared.event.OwnEvent.{OwnEvent}
 use Rattle.onu.specs.declared.event.OwnEvent.TheVariants.{SignalLoss, SignalReturn, PowerSetUp, FirstTimer, SecondTimer, PowerLoss}
 use Rattle.onu.specs.declared.state.Onu.{Onu}
 use Rattle.onu.specs.declared.state.State.TheVariants.{O1, O2, O4, O5, O6, O7, O8, O9, O10}
+use Rattle.plant.proofs.Lists.{drifts_twice}
 use Rattle.plant.proofs.Rows.{heard-length}
 use Rattle.plant.specs.Heard.{heard_grants}
 use Rattle.plant.specs.Lawful.{Move, own, drift, by_move, by_moves, burst_of, answer_to, answers, acted, Choice, leaves, sends, Hears, none, more, HearsCell, all_sound, Does, Lawful, Drifts, still, next, slot_limit}
@@ -169,6 +170,14 @@ module _ (b : ℕ) where
   drifts_far still = still
   drifts_far (next {o = o} {os = os} {os' = os'} ms h) =
       subst (λ (x : Onu). Drifts (far b o ∷ map (far b) os) (x ∷ map (far b) os')) (moves_far ms o) (next (map seen ms) (drifts_far h))
+
+  drifts_length : (c : ℕ) (xs : List Onu) → Drifts (map (far b) xs) (map (far c) xs)
+  drifts_length c [] = still
+  drifts_length c (x ∷ xs) = next (drift (longer c x.trip) ∷ []) (drifts_length c xs)
+
+  -- the fibre has another length afterwards
+  pub drifts_over : (c : ℕ) {xs xs' : List Onu} → Drifts xs xs' → Drifts (map (far b) xs) (map (far c) xs')
+  drifts_over c {xs' = xs'} h = drifts_twice (drifts_far h) (drifts_length c xs')
 
   carry : (v w x : Bool) → (w ≡ true → x ≡ true) → (v && w) ≡ true → (v && x) ≡ true
   carry true w x h k = h k

@@ -59,6 +59,15 @@ pub drifts-append : {xs xs' ys ys' : List Onu} → Drifts xs xs' → Drifts ys y
 drifts-append still k = k
 drifts-append (next ms h) k = next ms (drifts-append h k)
 
+by_moves-append : (ms ns : List Move) (o : Onu) → by_moves (ms ++ ns) o ≡ by_moves ns (by_moves ms o)
+by_moves-append [] ns o = refl
+by_moves-append (m ∷ ms) ns o = by_moves-append ms ns (by_move m o)
+
+pub drifts_twice : {xs ys zs : List Onu} → Drifts xs ys → Drifts ys zs → Drifts xs zs
+drifts_twice still k = k
+drifts_twice (next {o = o} {os = os} ms h) (next {os' = zs} ns k) =
+    subst (λ (x : Onu). Drifts (o ∷ os) (x ∷ zs)) (by_moves-append ms ns o) (next (ms ++ ns) (drifts_twice h k))
+
 pub drifts-count : {xs xs' : List Onu} → Drifts xs xs' → length xs' ≡ length xs
 drifts-count still = refl
 drifts-count (next ms h) = ap suc (drifts-count h)

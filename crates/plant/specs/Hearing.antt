@@ -1,5 +1,5 @@
 -- A call of `hear`: its three questions, and what it leaves.
-use Rattle.std.specs.Prelude.{◌≡◌, ℕ, ◌-◌, ◌*◌, ◌<◌, ◌≤◌, cond, List, ◌++◌, length, Ok, Err, vec_items, vec_len, vec_capacity, Result, Vec, ◌==◌, nat_lt}
+use Rattle.std.specs.Prelude.{◌≡◌, ℕ, ◌-◌, ◌*◌, ◌<◌, ◌≤◌, cond, List, ◌++◌, codes, length, Ok, Err, vec_items, vec_len, vec_capacity, Result, Vec, ◌==◌, nat_lt}
 use Rattle.std.specs.declared.alloc.Global.{Global}
 use Rattle.onu.specs.declared.state.Onu.{Onu}
 use Rattle.plant.specs.declared.burst.Burst.{Burst}
@@ -12,6 +12,12 @@ abbrev pub hear_refusal : HearFault → ℕ
 hear_refusal Length = 15
 hear_refusal Room = 18
 hear_refusal Late = 19
+
+-- what is said of them
+abbrev pub hear_words : HearFault → List ℕ
+hear_words Length = codes "length"
+hear_words Room = codes "room for bursts"
+hear_words Late = codes "first slot"
 
 abbrev pub Bursts : Type 0
 Bursts = Vec Burst Global

@@ -32,8 +32,6 @@ impl Burst {
 }
 
 // Overlap is symmetric, and bursts that start as far apart as one lasts are apart.
-pub fn overlap_stands() -> bool
+pub fn overlap_stands()
     ensures { OverlapStands }
-{
-    true
-}
+{}

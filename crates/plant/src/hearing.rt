@@ -1,6 +1,6 @@
 // Why a plant does not hear a cell.
-ghost use Rattle.std.specs.Prelude.{◌≡◌};
-ghost use Rattle.plant.specs.Hearing.{hear_refusal};
+ghost use Rattle.std.specs.Prelude.{◌≡◌, Some};
+ghost use Rattle.plant.specs.Hearing.{hear_refusal, hear_words};
 
 use std::fmt;
 
@@ -27,6 +27,8 @@ impl HearFault {
 }
 
 impl fmt::Display for HearFault {
+    ghost output = { λ fault. Some (hear_words fault) };
+
     fn fmt<W: fmt::Write>(&self, f: &mut fmt::Formatter<W>) -> fmt::Result {
         match *self {
             HearFault::Length => f.write_str("length"),

@@ -53,7 +53,8 @@ pub fn hear_lawfully<P: Plant>(
     first: u64,
     bursts: &mut Vec<Burst>,
 ) -> Result<(), HearFault>
-    ensures { OnOk result (HeardBy (P.Plant.means plant.old) payload.now first bursts.old.items (P.Plant.means plant.new) bursts.new.items) }
+    ensures heard { OnOk result (HeardBy (P.Plant.means plant.old) payload.now first bursts.old.items (P.Plant.means plant.new) bursts.new.items) }
+    ensures hears { Hearing P.Plant.does (length (P.Plant.means plant.old)) plant.old payload.now first bursts.old plant.new bursts.new result }
 {
     plant.hear(payload, first, bursts)
 }

@@ -4,8 +4,8 @@ use Rattle.std.proofs.Common.{arith, ap, ◌∙◌, inl, inr, length-append}
 use Rattle.std.proofs.lemmas.Bool.{cases_lt}
 use Rattle.onu.specs.Facts.{sound}
 use Rattle.onu.specs.declared.state.Onu.{Onu}
-use Rattle.plant.proofs.Lists.{hears-append, hears-count}
-use Rattle.plant.specs.Lawful.{Does, Lawful, HearsCell, all_sound, slot_limit}
+use Rattle.plant.proofs.Lists.{hears-append, hears-count, drifts-append, drifts-count}
+use Rattle.plant.specs.Lawful.{Does, Lawful, HearsCell, Drifts, all_sound, slot_limit}
 use Rattle.plant.specs.declared.burst.Burst.{Burst}
 use Rattle.splitter.specs.Splitter.{joined, SplitDoes}
 
@@ -41,6 +41,12 @@ sound-append (x ∷ xs) ys h k = both (sound x) (all_sound xs) (all_sound (xs ++
 pub joined_sound : (xs ys : List Onu) → all_sound xs ≡ true → all_sound ys ≡ true → all_sound (joined xs ys) ≡ true
 joined_sound xs ys h k =
     elim (nat_le (length xs + length ys) 64) as (λ (v : Bool). all_sound (cond v (xs ++ ys) xs) ≡ true) [ true ↦ sound-append xs ys h k | false ↦ h ]
+
+-- each side by itself
+pub joined_drifts : {xs xs' ys ys' : List Onu} → Drifts xs xs' → Drifts ys ys' → Drifts (joined xs ys) (joined xs' ys')
+joined_drifts {xs} {xs'} {ys} {ys'} h k =
+    rw (drifts-count h, drifts-count k)
+    (elim (nat_le (length xs + length ys) 64) as (λ (v : Bool). Drifts (cond v (xs ++ ys) xs) (cond v (xs' ++ ys') xs')) [ true ↦ drifts-append h k | false ↦ h ])
 
 module _ {X Y : Type 0} (m : X → List Onu) (n : Y → List Onu) (D : Does X) (E : Does Y) where
   split_case : (v : Bool) (x x' : X) (y y' : Y) (p : List ℕ) (f : ℕ) (new : List Burst) → Lawful m D → Lawful n E → length p ≡ 48 → f < slot_limit

@@ -1,15 +1,15 @@
 -- A star of lawful plants is one.
-use Rattle.std.specs.Prelude.{◌≡◌, ℕ, suc, ◌+◌, ◌<◌, ◌≤◌, true, false, List, [], ◌∷◌, ◌++◌, length, drop, nat_le, slice_index_or}
+use Rattle.std.specs.Prelude.{◌≡◌, ℕ, zero, suc, ◌+◌, ◌<◌, ◌≤◌, true, false, List, [], ◌∷◌, ◌++◌, length, drop, set, nat_le, slice_index_or}
 use native.Mathlib.Omega.{arith}
 use Rattle.std.proofs.Math.Path.{refl, sym, ap, subst}
 use Rattle.std.proofs.Common.{◌∙◌, append_assoc, append-nil, inl, inr, length-append}
 use Rattle.std.proofs.Math.Seq.{drop-cons}
 use Rattle.std.proofs.lemmas.Bool.{cases_lt}
 use Rattle.onu.specs.declared.state.Onu.{Onu}
-use Rattle.splitter.specs.Splits.{joined_few, joined_sound, joined_whole, joined_dark}
+use Rattle.splitter.specs.Splits.{joined_few, joined_sound, joined_whole, joined_dark, joined_drifts}
 use Rattle.splitter.specs.Splitter.{joined}
-use Rattle.plant.proofs.Lists.{hears-append, hears-count}
-use Rattle.plant.specs.Lawful.{Does, Lawful, HearsCell, all_sound, none as nobody, slot_limit}
+use Rattle.plant.proofs.Lists.{hears-append, hears-count, drifts_still}
+use Rattle.plant.specs.Lawful.{Does, Lawful, HearsCell, Drifts, all_sound, none as nobody, slot_limit}
 use Rattle.plant.specs.declared.burst.Burst.{Burst}
 use Rattle.star.specs.Star.{lit, lit_in, lighted, Arms, none, bright, dim}
 
@@ -61,6 +61,19 @@ module _ {X : Type 0} (means : X → List Onu) where
   unfolding lighted
   lighted_sound law zs [] h = h
   lighted_sound law zs (x ∷ xs) h = lighted_sound law (joined zs (means x)) xs (joined_sound zs (means x) h (law x))
+
+  after_drift : (zs zs' : List Onu) (xs : List X) → Drifts zs zs' → Drifts (lighted means zs xs) (lighted means zs' xs)
+  unfolding lighted
+  after_drift zs zs' [] h = h
+  after_drift zs zs' (x ∷ xs) h = after_drift (joined zs (means x)) (joined zs' (means x)) xs (joined_drifts h (drifts_still (means x)))
+
+  -- one arm by itself
+  pub lighted_drifts : (zs : List Onu) (xs : List X) (i : ℕ) (d y : X) → Drifts (means (slice_index_or xs i d)) (means y)
+      → Drifts (lighted means zs xs) (lighted means zs (set xs i y))
+  unfolding lighted
+  lighted_drifts zs [] i d y h = drifts_still zs
+  lighted_drifts zs (x ∷ xs) zero d y h = after_drift (joined zs (means x)) (joined zs (means y)) xs (joined_drifts (drifts_still zs) h)
+  lighted_drifts zs (x ∷ xs) (suc i) d y h = lighted_drifts (joined zs (means x)) xs i d y h
 
 module _ {X : Type 0} (means : X → List Onu) (D : Does X) (p : List ℕ) (f : ℕ) where
   module _ (law : Lawful means D) (l : length p ≡ 48) (h : f < slot_limit) where

@@ -1,11 +1,17 @@
 // A line of a script read as a command.
-use crate::tree::{Change, HostEvent};
 use crate::words::{NoCommand, Words};
+use field::number::SerialNumber;
+use ports::tree::{Change, HostEvent};
 use std::alloc::Global;
 
 #[derive(Drop)]
 pub enum Command {
     New,
+    Plug {
+        port: usize,
+        serial: SerialNumber,
+        trip: u64,
+    },
     Port {
         port: usize,
         change: Change,
@@ -39,10 +45,6 @@ impl Words<'_> {
 
     fn change(&mut self, name: &str) -> Result<Change, NoCommand> {
         match name {
-            "onu" => Ok(Change::Plug {
-                serial: self.hex64()?,
-                trip: self.word32()?,
-            }),
             "fibre" => Ok(Change::FibreBits(self.word32()?)),
             "loss" => Ok(Change::Pattern(self.hex64()?)),
             "trip" => Ok(Change::Host(HostEvent::Trip(self.word32()?))),
@@ -76,7 +78,12 @@ impl Words<'_> {
                 frame: self.word64()?,
                 marks: self.bytes()?,
             }),
-            "onu" | "fibre" | "loss" | "signal" | "power" | "trip" => Ok(Command::Port {
+            "onu" => Ok(Command::Plug {
+                port: self.port()?,
+                serial: SerialNumber::saturating(self.hex64()?),
+                trip: self.word32()?,
+            }),
+            "fibre" | "loss" | "signal" | "power" | "trip" => Ok(Command::Port {
                 port: self.port()?,
                 change: self.change(name)?,
             }),

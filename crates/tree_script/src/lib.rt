@@ -4,5 +4,4 @@
 mod command;
 pub mod run;
 pub mod shown;
-pub mod tree;
 pub mod words;

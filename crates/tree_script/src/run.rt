@@ -1,11 +1,12 @@
 // Scripts run line by line.
 use crate::command::Command;
 use crate::shown::{Move, ShownBurst, ShownOnu};
-use crate::tree::{Change, PORTS, Tree};
 use crate::words::NoCommand;
 use keyed::hex::Digits;
 use onu::state::State;
 use plant::burst::Burst;
+use plant::plant::Plant;
+use ports::tree::{Change, PORTS, Tree};
 use receiver::receive::receive;
 use std::alloc::{AllocError, Global};
 use std::io::{BufRead, BufReader};
@@ -159,6 +160,7 @@ impl Script {
     fn act(&mut self, command: Command) -> Result<(), AllocError> {
         match command {
             Command::New => self.renew()?,
+            Command::Plug { port, serial, trip } => self.tree.plug(port, serial, trip),
             Command::Port { port, change } => self.change(port, change)?,
             Command::Feeder(bits) => self.tree.set_feeder(bits),
             Command::FeederPattern(pattern) => self.tree.set_feeder_pattern(pattern),

@@ -1,6 +1,6 @@
 // The words of a line of a script, read one by one.
-use crate::tree::PORTS;
 use keyed::hex::{self, NotHex};
+use ports::tree::PORTS;
 use std::alloc::Global;
 use std::str::{FromStr, SplitWhitespace};
 

@@ -1,31 +1,36 @@
 -- A line with 65 ports: what stands in a port, what the host makes of it, and whom the line means.
 use Rattle.std.specs.Prelude.{◌≡◌, ℕ, cond, List, [], ◌∷◌, map, Some, None, Option, option_map, ◌==◌}
 use Rattle.std.specs.List.{slice_get}
+use Rattle.bench.specs.Bench.{met, new_machine}
 use Rattle.bench.specs.declared.bench_onu.BenchOnu.{BenchOnu}
+use Rattle.bench.specs.declared.machine.Machine.{Machine}
 use Rattle.fibre.specs.Fibre.{far}
 use Rattle.fibre.specs.declared.Fibre.{Fibre}
 use Rattle.field.specs.Number.{capped}
 use Rattle.field.specs.declared.number.Number.{Number}
 use Rattle.lossy_drop.specs.declared.LossyDrop.{LossyDrop}
-use Rattle.onu.specs.Onu.{new_onu}
 use Rattle.onu.specs.declared.event.OwnEvent.TheVariants.{SignalLoss, SignalReturn, PowerLoss}
 use Rattle.onu.specs.declared.state.Onu.{Onu}
 use Rattle.outlet.specs.Outlet.{plugged}
 use Rattle.outlet.specs.declared.Outlet.{Outlet}
-use Rattle.plant.specs.Lawful.{Move, own, drift, by_move}
+use Rattle.plant.specs.Lawful.{Move, own, drift}
 use Rattle.splitter.specs.Splitter.{joined}
 use Rattle.star.specs.Star.{lighted}
-use Rattle.tree_script.specs.declared.tree.Change.{Change}
-use Rattle.tree_script.specs.declared.tree.Change.TheVariants.{Plug, FibreBits, Pattern, Host}
-use Rattle.tree_script.specs.declared.tree.HostEvent.{HostEvent}
-use Rattle.tree_script.specs.declared.tree.HostEvent.TheVariants.{SignalLost, SignalBack, PowerLost, Trip}
-use Rattle.tree_script.specs.declared.tree.Tree.{Tree}
+use Rattle.ports.specs.declared.tree.Change.{Change}
+use Rattle.ports.specs.declared.tree.Change.TheVariants.{FibreBits, Pattern, Host}
+use Rattle.ports.specs.declared.tree.HostEvent.{HostEvent}
+use Rattle.ports.specs.declared.tree.HostEvent.TheVariants.{SignalLost, SignalBack, PowerLost, Trip}
+use Rattle.ports.specs.declared.tree.Tree.{Tree}
 
 abbrev pub Port : Type 0
 Port = LossyDrop (Fibre (Outlet BenchOnu))
 
 abbrev pub bench_means : BenchOnu → List Onu
 bench_means b = b.machine.onu ∷ []
+
+-- the bench ONU in a port, with its timers
+abbrev pub machine_in : Port → Option Machine
+machine_in p = option_map (λ (b : BenchOnu). b.machine) p.plant.plant.plant
 
 -- the ONU in a port, without the fibres before it
 abbrev pub onu_in : Port → Option Onu
@@ -53,12 +58,11 @@ host_move SignalBack = own SignalReturn
 host_move PowerLost = own PowerLoss
 host_move (Trip bits) = drift (capped 1000000 bits)
 
--- a new ONU in place of what was there, or a host's event of the one that is there
-abbrev pub onu_after : Change → Option Onu → Option Onu
-onu_after (Plug serial trip) o = Some (new_onu (capped 18446744073709551615 serial) (capped 1000000 trip))
-onu_after (Host e) o = option_map (by_move (host_move e)) o
-onu_after (FibreBits bits) o = o
-onu_after (Pattern pattern) o = o
+-- a host's event moves the ONU that is there; its timers stay
+abbrev pub machine_after : Change → Option Machine → Option Machine
+machine_after (Host e) m = option_map (met (host_move e)) m
+machine_after (FibreBits bits) m = m
+machine_after (Pattern pattern) m = m
 
 abbrev pub bits_after : Change → Number 32000 → Number 32000
 bits_after (FibreBits bits) d = capped 32000 bits
@@ -68,10 +72,19 @@ abbrev pub pattern_after : Change → ℕ → ℕ
 pattern_after (Pattern pattern) old = pattern
 pattern_after _ old = old
 
--- what a change makes of the port of its number; a number past the last port changes nothing
-abbrev pub PortChanged : Change → Option Port → Option Port → Type 0
-PortChanged c (Some p) (Some q) =
-    (onu_in q ≡ onu_after c (onu_in p)) × (q.plant.bits ≡ bits_after c p.plant.bits) × (q.pattern ≡ pattern_after c p.pattern)
-PortChanged c None None = Unit {0}
-PortChanged c None (Some q) = ⊥
-PortChanged c (Some p) None = ⊥
+-- what a change makes of a port
+abbrev pub Changed : Change → Port → Port → Type 0
+Changed c p q =
+    (machine_in q ≡ machine_after c (machine_in p)) × (q.plant.bits ≡ bits_after c p.plant.bits) × (q.pattern ≡ pattern_after c p.pattern)
+
+-- a new ONU is in the port, in place of what was there
+abbrev pub Plugged : Number 18446744073709551615 → (trip : ℕ) → Port → Port → Type 0
+Plugged serial trip p q =
+    (machine_in q ≡ Some (new_machine serial (capped 1000000 trip))) × (q.plant.bits ≡ p.plant.bits) × (q.pattern ≡ p.pattern)
+
+-- the port of a number before and after; a number past the last port changes nothing
+abbrev pub AtPort : (Port → Port → Type 0) → Option Port → Option Port → Type 0
+AtPort R (Some p) (Some q) = R p q
+AtPort R None None = Unit {0}
+AtPort R None (Some q) = ⊥
+AtPort R (Some p) None = ⊥

@@ -21,8 +21,8 @@ use Rattle.splitter.specs.declared.Splitter.{Splitter}
 use Rattle.star.specs.Lit.{lighted_few, lighted_sound, star_lawful}
 use Rattle.star.specs.Star.{lighted, Arms}
 use Rattle.star.specs.declared.Star.{Star}
-use Rattle.tree_script.specs.Tree.{Port, bench_means, port_means, line_means}
-use Rattle.tree_script.specs.declared.tree.Tree.{Tree}
+use Rattle.ports.specs.Tree.{Port, bench_means, port_means, line_means}
+use Rattle.ports.specs.declared.tree.Tree.{Tree}
 
 abbrev pub bench_does : Does BenchOnu
 bench_does s p f t new = BenchDoes s.machine p f t.machine new

@@ -1,9 +1,9 @@
 // A line with 65 ports behind a common fibre and a common drop.
-ghost use Rattle.std.specs.Prelude.{◌≡◌, ℕ, false, length, None, IfOk, OnErr, nat_eq};
+ghost use Rattle.std.specs.Prelude.{◌≡◌, ℕ, false, length, None, IfOk, nat_eq};
 ghost use Rattle.field.specs.Number.{capped};
-ghost use Rattle.plant.specs.Hearing.{asked, room_in};
-ghost use Rattle.plant.specs.Lawful.{by_move};
-ghost use Rattle.tree_script.specs.Tree.{onu_in, line_means, port_at, onu_of, host_move, onu_after, bits_after, pattern_after, PortChanged};
+ghost use Rattle.plant.specs.Lawful.{Drifts};
+ghost use Rattle.bench.specs.Bench.{met};
+ghost use Rattle.ports.specs.Tree.{onu_in, line_means, port_at, onu_of, host_move, Changed, Plugged, AtPort};
 
 use bench::bench_onu::BenchOnu;
 use cell::reader::Cell;
@@ -13,7 +13,6 @@ use lossy_drop::LossyDrop;
 use onu::state::Onu;
 use outlet::Outlet;
 use plant::burst::Burst;
-use plant::hearing::HearFault;
 use plant::plant::Plant;
 use splitter::Splitter;
 use star::Star;
@@ -33,11 +32,9 @@ pub struct Tree {
     line: Fibre<LossyDrop<Splitter<Star<Port>, Port>>>,
 }
 
-// What is done to one port.
+// What is done to one port; the ONU in it stays.
 #[derive(Clone, Copy)]
 pub enum Change {
-    // a bench ONU is put in, in place of what was there
-    Plug { serial: u64, trip: u64 },
     FibreBits(u64),
     // a pattern, begun anew
     Pattern(u64),
@@ -62,7 +59,7 @@ fn empty_port() -> Port
 }
 
 fn happen(onu: &mut BenchOnu, event: HostEvent)
-    ensures { onu.new.machine.onu ≡ by_move (host_move event) onu.old.machine.onu }
+    ensures { onu.new.machine ≡ met (host_move event) onu.old.machine }
 {
     match event {
         HostEvent::SignalLost => onu.lose_signal(),
@@ -73,15 +70,9 @@ fn happen(onu: &mut BenchOnu, event: HostEvent)
 }
 
 fn change_port(port: &mut Port, change: Change)
-    ensures onu { onu_in port.new ≡ onu_after change (onu_in port.old) }
-    ensures bits { port.new.plant.bits ≡ bits_after change port.old.plant.bits }
-    ensures pattern { port.new.pattern ≡ pattern_after change port.old.pattern }
+    ensures { Changed change port.old port.new }
 {
     match change {
-        Change::Plug { serial, trip } => {
-            let onu = BenchOnu::new(SerialNumber::saturating(serial), trip);
-            port.plant.plant.plant = Some(onu);
-        }
         Change::FibreBits(bits) => port.plant.bits = FibreBits::saturating(bits),
         Change::Pattern(pattern) => port.pattern = pattern,
         Change::Host(event) => {
@@ -90,6 +81,12 @@ fn change_port(port: &mut Port, change: Change)
             }
         }
     }
+}
+
+fn plug_in(port: &mut Port, serial: SerialNumber, trip: u64)
+    ensures { Plugged serial trip port.old port.new }
+{
+    port.plant.plant.plant = Some(BenchOnu::new(serial, trip));
 }
 
 fn plugged(port: &Port) -> Option<Onu>
@@ -112,11 +109,27 @@ impl Tree {
         })
     }
 
-    pub fn change(&mut self, port: usize, change: Change)
-        ensures port { PortChanged change (port_at port self.old) (port_at port self.new) }
+    // Puts a bench ONU into a port, in place of what was there.
+    pub fn plug(&mut self, port: usize, serial: SerialNumber, trip: u64)
+        ensures port { AtPort (Plugged serial trip) (port_at port self.old) (port_at port self.new) }
         ensures others { (n : ℕ) → nat_eq n port ≡ false → port_at n self.new ≡ port_at n self.old }
         ensures bits { self.new.line.bits ≡ self.old.line.bits }
         ensures pattern { self.new.line.plant.pattern ≡ self.old.line.plant.pattern }
+    {
+        let Splitter { one, two } = &mut self.line.plant.plant;
+        if port == LAST {
+            plug_in(two, serial, trip);
+        } else if let Some(arm) = one.arms.get_mut(port) {
+            plug_in(arm, serial, trip);
+        }
+    }
+
+    pub fn change(&mut self, port: usize, change: Change)
+        ensures port { AtPort (Changed change) (port_at port self.old) (port_at port self.new) }
+        ensures others { (n : ℕ) → nat_eq n port ≡ false → port_at n self.new ≡ port_at n self.old }
+        ensures bits { self.new.line.bits ≡ self.old.line.bits }
+        ensures pattern { self.new.line.plant.pattern ≡ self.old.line.plant.pattern }
+        ensures drifts { Drifts (line_means self.old) (line_means self.new) }
     {
         if port == LAST {
             change_port(&mut self.line.plant.plant.two, change);
@@ -136,36 +149,28 @@ impl Tree {
         }
     }
 
+    #[tactic(auto, using(fibre::specs::Far::drifts_over, plant::proofs::Lists::drifts_still))]
     pub fn set_feeder(&mut self, bits: u64)
         ensures bits { self.new.line.bits ≡ capped 32000 bits }
         ensures plant { self.new.line.plant ≡ self.old.line.plant }
+        ensures drifts { Drifts (line_means self.old) (line_means self.new) }
     {
         self.line.bits = FibreBits::saturating(bits);
     }
 
+    #[tactic(auto, using(plant::proofs::Lists::drifts_still))]
     pub fn set_feeder_pattern(&mut self, pattern: u64)
         ensures pattern { self.new.line.plant.pattern ≡ pattern }
         ensures bits { self.new.line.bits ≡ self.old.line.bits }
         ensures ports { self.new.line.plant.plant ≡ self.old.line.plant.plant }
+        ensures drifts { Drifts (line_means self.old) (line_means self.new) }
     {
         self.line.plant.pattern = pattern;
-    }
-
-    pub fn hear(
-        &mut self,
-        payload: &[u8],
-        first: u64,
-        bursts: &mut Vec<Burst>,
-    ) -> Result<(), HearFault>
-        ensures answer { result ≡ asked (length payload.now) (room_in bursts.old) (length (line_means self.old)) first }
-        ensures kept { OnErr result ((self.new ≡ self.old) × (bursts.new.items ≡ bursts.old.items)) }
-    {
-        self.line.hear(payload, first, bursts)
     }
 }
 
 impl Plant for Tree {
-    ghost use Rattle.tree_script.specs.Lawful.{tree_does, tree_law, tree_few, tree_sound};
+    ghost use Rattle.ports.specs.Lawful.{tree_does, tree_law, tree_few, tree_sound};
 
     ghost means = { λ t. line_means t };
 

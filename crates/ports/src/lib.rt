@@ -1,0 +1,4 @@
+// A line of bench ONUs in 65 ports, as one plant.
+#![tactic(auto)]
+
+pub mod tree;
