@@ -41,14 +41,12 @@ module _ {P : Type 0} (means : P → List Onu) (does : Does P) where
   -- a call that sends no frame, and leaves the plant and the bursts
   pub goes_call : (c : Call) (a b : Line P) → NoFrame c a.head → ((cells : List HeardCell) → Came means does a cells → Honest cells c a.head)
       → b.head ≡ next c a.head → b.plant ≡ a.plant → ((x : Burst) → Contains b.bursts.items x → Contains a.bursts.items x) → Goes means does a b
-  goes_call c a b quiet honest h p sub cells came = (
-    cells,
-    record {
-      run = subst (λ (x : Head). Run means does x b.plant cells) (sym h)
-          (subst (λ (q : P). Run means does (next c a.head) q cells) (sym p) (calls c came.run quiet (honest cells came)));
-      heard = λ x m. came.heard x (sub x m);
-    },
-  )
+  goes_call c a b quiet honest h p sub cells came =
+      record {
+        run = subst (λ (x : Head). Run means does x b.plant cells) (sym h)
+            (subst (λ (q : P). Run means does (next c a.head) q cells) (sym p) (calls c came.run quiet (honest cells came)));
+        heard = λ x m. came.heard x (sub x m);
+      }
 
   -- a settle of the bench receiver's report of the bursts held, which are then all or some of those
   pub goes_settle : (docket : ℕ) (marks : List ℕ) (a b : Line P) → b.head ≡ settle_head a.head docket (reported docket a.bursts.items marks 53) → b.plant ≡ a.plant
@@ -60,4 +58,4 @@ module _ {P : Type 0} (means : P → List Onu) (does : Does P) where
 
   -- the plant's ONUs moved by themselves
   pub goes_drifting : (line : Line P) → GoesDrifting means does line
-  goes_drifting line plant d cells came = (cells, record { run = drifts plant came.run d; heard = came.heard })
+  goes_drifting line plant d cells came = record { run = drifts plant came.run d; heard = came.heard }

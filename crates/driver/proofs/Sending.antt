@@ -11,8 +11,8 @@ use Rattle.plant.proofs.Room.{room_left}
 use Rattle.plant.specs.Hearing.{Bursts, Taken, room_in}
 use Rattle.plant.specs.Lawful.{Does, Lawful, slot_limit}
 use Rattle.plant.specs.declared.burst.Burst.{Burst}
-use Rattle.line.specs.Run.{HeardCell, all_bursts, Run, sends}
-use Rattle.driver.specs.Driver.{Goes, Heard}
+use Rattle.line.specs.Run.{all_bursts, Run, sends}
+use Rattle.driver.specs.Driver.{Heard, Went, heard_cell}
 use Rattle.driver.specs.declared.driven.Line.{Line}
 
 -- where there was room for two cells, there is room for the second once the first was heard
@@ -35,15 +35,15 @@ appended held first second heard sub x m =
 module _ {P : Type 0} (means : P → List Onu) (does : Does P) where
   -- a frame went out, and both of its cells were heard
   pub goes_heard : (buffer : List ℕ) (d : Docket) (a b : Line P) → send_answer a.head (length buffer) ≡ Ok d → b.head ≡ send_head a.head (length buffer)
-      → Heard does (sent_bytes a.head) a.head.frame a b → Goes means does a b
-  goes_heard buffer d a b ok h (q, first, second, x, y, e) cells came =
-      let guard = a.head.settings.guard.value in
-      let newer : HeardCell = record { guard = guard; onus = means b.plant; bursts = second } in
-      let older : HeardCell = record { guard = guard; onus = means q; bursts = first } in (
-        newer ∷ older ∷ cells,
+      → Heard does (sent_bytes a.head) a.head.frame a b → Went means does (Ok d) a b
+  goes_heard buffer d a b ok h (q, first, second, x, y, e) = (
+    q,
+    first,
+    second,
+    e,
+    λ cells came.
         record {
-          run = subst (λ (z : Head). Run means does z b.plant (newer ∷ older ∷ cells)) (sym h)
-              (sends buffer d q q b.plant first second came.run ok x (drifts_still (means q)) y);
+          run = subst (λ (z : Head). Run means does z b.plant (heard_cell means a.head.settings.guard.value b.plant second ∷ heard_cell means a.head.settings.guard.value q first ∷ cells)) (sym h) (sends buffer d q q b.plant first second came.run ok x (drifts_still (means q)) y);
           heard = λ z m. appended a.bursts.items first second (all_bursts cells) came.heard z (subst (λ (ys : List Burst). Contains ys z) e m);
         },
-      )
+  )

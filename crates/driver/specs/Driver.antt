@@ -1,5 +1,5 @@
 -- A line as it is driven: a head, a plant, and the bursts of the frames that are out.
-use Rattle.std.specs.Prelude.{◌≡◌, ℕ, ◌+◌, ◌*◌, ◌/◌, ◌<◌, List, ◌++◌, length, filter, AllPairs, Contains, Ok, Err, Result, nat_lt}
+use Rattle.std.specs.Prelude.{◌≡◌, ℕ, ◌+◌, ◌*◌, ◌/◌, ◌<◌, List, ◌∷◌, ◌++◌, length, filter, AllPairs, Contains, Ok, Err, Result, nat_lt}
 use Rattle.head.specs.Steps.{Answer, on_ok, send_answer, sent, sent_bytes}
 use Rattle.head.specs.declared.docket.Docket.{Docket}
 use Rattle.head.specs.declared.head.Head.{Head}
@@ -20,9 +20,9 @@ pub record Came {P : Type 0} (means : P → List Onu) (does : Does P) (line : Li
   pub run : Run means does line.head line.plant cells
   pub heard : (b : Burst) → Contains line.bursts.items b → Contains (all_bursts cells) b
 
--- a succession that came to one line goes on to the other
+-- a succession that came to one line goes on to the other, and no cell was heard in between
 abbrev pub Goes : {P : Type 0} → (P → List Onu) → Does P → (from to : Line P) → Type 0
-Goes means does from to = (cells : List HeardCell) → Came means does from cells → (more : List HeardCell) × Came means does to more
+Goes means does from to = (cells : List HeardCell) → Came means does from cells → Came means does to cells
 
 -- another head before the same plant
 abbrev pub with_head : {P : Type 0} → Head → Line P → Line P
@@ -50,6 +50,19 @@ Sent means does (Ok docket) from to =
     (send_answer from.head 96 ≡ Ok docket) × (to.head ≡ sent from.head) × Heard does (sent_bytes from.head) from.head.frame from to
 Sent means does (Err (Refused why)) from to = (send_answer from.head 96 ≡ Err why) × Same from to
 Sent means does (Err Room) from to = (room_in from.bursts < 54 * length (means from.plant)) × Same from to
+
+-- a cell that a plant heard at a guard, with what the plant means afterwards
+abbrev pub heard_cell : {P : Type 0} → (P → List Onu) → (guard : ℕ) → P → List Burst → HeardCell
+heard_cell means guard plant bursts = record { guard = guard; onus = means plant; bursts = bursts }
+
+-- The succession goes on. Where a frame went out, both of its cells were heard in between, the plant being q after the first, and the
+-- bursts that they brought are those that are held more than before.
+abbrev pub Went : {P X : Type 0} → (P → List Onu) → Does P → Result X Halt → (from to : Line P) → Type 0
+Went {P} means does (Ok x) from to =
+    (q : P) × (first : List Burst) × (second : List Burst) × (to.bursts.items ≡ from.bursts.items ++ first ++ second)
+    × ((cells : List HeardCell) → Came means does from cells
+    → Came means does to (heard_cell means from.head.settings.guard.value to.plant second ∷ heard_cell means from.head.settings.guard.value q first ∷ cells))
+Went means does (Err halt) from to = Goes means does from to
 
 -- after a frame that went out one, otherwise the other
 abbrev pub after_send : {X : Type 0} → Result Docket Halt → X → X → X

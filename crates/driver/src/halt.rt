@@ -1,4 +1,7 @@
 // Why no frame went out.
+ghost use Rattle.std.specs.Prelude.{Some};
+ghost use Rattle.driver.specs.Halt.{halt_words};
+
 use head::refusal::Refusal;
 use std::error::Error;
 use std::fmt;
@@ -12,6 +15,8 @@ pub enum Halt {
 }
 
 impl fmt::Display for Halt {
+    ghost output = { λ halt. Some (halt_words halt) };
+
     fn fmt<W: fmt::Write>(&self, f: &mut fmt::Formatter<W>) -> fmt::Result {
         match self {
             Halt::Refused(why) => why.fmt(f),

@@ -5,8 +5,8 @@ use line::laws::no_overlap;
 use plant::plant::Plant;
 
 // Whatever was called: no two bursts that were heard overlap.
-pub fn undisturbed<P: Plant>() -> bool
+pub fn undisturbed<P: Plant>()
     ensures { Undisturbed P.Plant.means P.Plant.does }
 {
-    no_overlap::<P>()
+    no_overlap::<P>();
 }

@@ -14,3 +14,5 @@ pub mod Codes
 pub mod Frames
 pub mod Answers
 pub mod Overlap
+pub mod Keeping
+pub mod Heads

@@ -66,7 +66,7 @@ drift_inv lo h os os' cells d i =
     }
 
 -- Set-up
-not_false : (b : Bool) → not b ≡ true → b ≡ false
+pub not_false : (b : Bool) → not b ≡ true → b ≡ false
 not_false true e = absurd (both_ways false refl e)
 not_false false e = refl
 
@@ -77,7 +77,7 @@ guards n e = grind (arith, nat_tests)
 within_chosen : (n : ℕ) → 4 ≤ n → n ≤ 24 → (chosen (within 4 24 n)).value ≡ n
 within_chosen n low high = ap (λ g. (chosen g).value) (within_in 4 24 n low high)
 
-guard_chosen : (n : ℕ) → guard_fits n ≡ true → (chosen (settings.guard_of n)).value ≡ n
+pub guard_chosen : (n : ℕ) → guard_fits n ≡ true → (chosen (settings.guard_of n)).value ≡ n
 guard_chosen n e =
     ap (λ b. (chosen (cond b (within 4 24 n) None)).value) e ∙ within_chosen n (grind (arith, nat_tests)) (grind (arith, nat_tests))
 
@@ -117,7 +117,7 @@ set_up_inv lo h os cells guard pattern first calendar i =
     (λ _ _. i)
 
 -- Enter, hold and release
-held_filled : (p : Phase) → is_held p ≡ true → not (is_empty p) ≡ true
+pub held_filled : (p : Phase) → is_held p ≡ true → not (is_empty p) ≡ true
 held_filled Empty e = absurd (both_ways false refl e)
 held_filled Held e = refl
 held_filled Waiting e = absurd (both_ways false refl e)
@@ -185,7 +185,7 @@ pub frame_codes : (h : Head) → (sent_frame h).grants.codes ≡ codes_from h.se
 unfolding grants_of
 frame_codes h = sym (all_picked 53 (codes_from h.settings (sent_rows h) h.frame 1 53) (codes-length h.settings (sent_rows h) h.frame 1 53))
 
-send_asked : (h : Head) (n : ℕ) (d : Docket) → send_answer h n ≡ Ok d → (h.out < 4) × (h.frame < 2 ^ 48)
+pub send_asked : (h : Head) (n : ℕ) (d : Docket) → send_answer h n ≡ Ok d → (h.out < 4) × (h.frame < 2 ^ 48)
 send_asked h n d e =
     let a = asked _ _ _ _ e in
     let b = asked _ _ _ _ a.1 in
@@ -234,7 +234,7 @@ send_inv lo h os os₁ os₂ os₃ cells b₁ b₂ few near₁ near₃ h₁ d h�
     }
 
 -- Settle
-settle_asked : (h : Head) (docket n : ℕ) → settle_answer h docket n ≡ Ok tt → (0 < h.out) × (docket + h.out ≡ h.frame)
+pub settle_asked : (h : Head) (docket n : ℕ) → settle_answer h docket n ≡ Ok tt → (0 < h.out) × (docket + h.out ≡ h.frame)
 settle_asked h docket n e =
     let a = asked _ _ _ _ e in
     let b = and_parts _ _ a.0 in
@@ -279,7 +279,7 @@ settle_inv lo h os cells docket report honest i =
     (λ _ _. i)
 
 -- The start
-blank_at : (q : ℕ) → row (replicate 64 blank) q ≡ blank
+pub blank_at : (q : ℕ) → row (replicate 64 blank) q ≡ blank
 blank_at q =
     ⊎_elim (λ l. get_or-replicate 64 q blank blank l)
     (λ l. get_or_past (replicate 64 blank) q blank (subst (λ n. n ≤ q) (sym (length-replicate 64 blank)) l)) (cases_lt q 64)

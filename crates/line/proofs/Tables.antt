@@ -269,7 +269,7 @@ pub none_serving : (rows : List Row) (p : ℕ) (r : Row) → serving r ≡ false
 none_serving rows p r e all q = at_set (λ _ x. serving x ≡ false) rows p r e all q
 
 -- no call changes the number of records
-changed-length : (p : Option Place) (f : Row → Row) (rows : List Row) → length (changed_if p f rows) ≡ length rows
+pub changed-length : (p : Option Place) (f : Row → Row) (rows : List Row) → length (changed_if p f rows) ≡ length rows
 changed-length None f rows = refl
 changed-length (Some p) f rows = length-set rows p.value (f (row rows p.value))
 

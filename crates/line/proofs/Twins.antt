@@ -44,10 +44,10 @@ some_same e = cc
 -- Rows.
 
 -- what enter, hold and release ask of a record: no report changes it
-record Known (r r' : Row) : Type 0 where
-  serial : r.serial ≡ r'.serial
-  empty : is_empty r.phase ≡ is_empty r'.phase
-  held : is_held r.phase ≡ is_held r'.phase
+pub record Known (r r' : Row) : Type 0 where
+  pub serial : r.serial ≡ r'.serial
+  pub empty : is_empty r.phase ≡ is_empty r'.phase
+  pub held : is_held r.phase ≡ is_held r'.phase
 
 -- the records of place q in two tables: p's may differ
 record Near (p : Place) (q : ℕ) (r r' : Row) : Type 0 where
@@ -122,7 +122,7 @@ counted_known guard ploam x r e =
     record { serial = k.serial; empty = k.empty; held = k.held }
 
 -- a record of a report, whatever it says
-row_known : (guard now F X : ℕ) (x : Record) (r : Row) → Known r (row_after guard now F X x r)
+pub row_known : (guard now F X : ℕ) (x : Record) (r : Row) → Known r (row_after guard now F X x r)
 row_known guard now F X x r =
     cond_both (window F X) (cond (last F X) (job_ends r.running guard now x r) r) (cond (counts F r) (counted guard (eqb X 1) x r) r) (Known r)
     (λ _. cond_both (last F X) (job_ends r.running guard now x r) r (Known r) (λ _. job_known r.running guard now x r) (λ _. known_refl r))

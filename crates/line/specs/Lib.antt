@@ -3,3 +3,4 @@ pub mod Payload
 pub mod Independence
 pub mod Run
 pub mod NoOverlap
+pub mod Kept

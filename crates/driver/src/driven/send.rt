@@ -2,7 +2,7 @@
 ghost use Rattle.std.specs.Prelude.{◌≡◌, ◌*◌, ◌^◌, ◌<◌, ◌≤◌, length};
 ghost use Rattle.plant.specs.Hearing.{Admitted, Taken, room_in};
 ghost use Rattle.head.specs.Steps.{send_answer, sent_bytes};
-ghost use Rattle.driver.specs.Driver.{Heard, Sent, after_send, Goes};
+ghost use Rattle.driver.specs.Driver.{Heard, Sent, Went, after_send};
 
 use super::Line;
 use crate::halt::Halt;
@@ -35,7 +35,7 @@ impl<P: Plant> Line<P> {
     pub fn send(&mut self, buffer: &mut [u8; 96]) -> Result<Docket, Halt>
         ensures sent { Sent P.Plant.means P.Plant.does result self.old self.new }
         ensures buffer { buffer.new ≡ after_send result (sent_bytes self.old.head) buffer.old }
-        ensures goes { Goes P.Plant.means P.Plant.does self.old self.new }
+        ensures goes { Went P.Plant.means P.Plant.does result self.old self.new }
     {
         let room = 54 * self.plant.count();
         self.bursts.reserve(room).map_err(|_| Halt::Room)?;
