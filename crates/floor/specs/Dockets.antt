@@ -1,5 +1,6 @@
 -- The dockets of the frames that are out.
-use Rattle.std.specs.Prelude.{ℕ, suc, ◌+◌, Bool, true, ◌&&◌, ◌||◌, List, [], ◌∷◌, length, nat_eq}
+use Rattle.std.specs.Prelude.{ℕ, suc, ◌+◌, Bool, true, ◌&&◌, ◌||◌, List, [], ◌∷◌, Ok, Err, Result, length, nat_eq}
+use Rattle.driver.specs.declared.halt.Halt.{Halt}
 use Rattle.head.specs.declared.docket.Docket.{Docket}
 use Rattle.head.specs.declared.head.Head.{Head}
 
@@ -14,3 +15,8 @@ held_for f o s ds = in_turn f ds && (nat_eq (length ds) o && (s || nat_eq o 0))
 
 abbrev pub all_held : Head → List Docket → Bool
 all_held h ds = held_for h.frame h.out h.started ds
+
+-- the docket of the frame that was sent
+abbrev pub with_docket : Result ℕ Halt → Result Docket Halt
+with_docket (Ok frame) = Ok (record { frame = frame })
+with_docket (Err halt) = Err halt

@@ -1,9 +1,9 @@
 // A line of a scenario read as a command.
 use field::number::SerialNumber;
 use field::octets::Octets;
+use ports::tree::{Change, HostEvent};
 use std::alloc::Global;
 use std::fmt;
-use tree_script::tree::{Change, HostEvent};
 use tree_script::words::{NoCommand, Words};
 
 // What the head is set up with.
@@ -37,7 +37,15 @@ impl fmt::Display for Call {
     }
 }
 
-// What is done to the plant.
+// A bench ONU for a port.
+#[derive(Clone, Copy)]
+pub struct Plug {
+    pub port: usize,
+    pub serial: SerialNumber,
+    pub trip: u64,
+}
+
+// What is done to the plant; its ONUs stay.
 #[derive(Clone, Copy)]
 pub enum Work {
     Port { port: usize, change: Change },
@@ -46,19 +54,6 @@ pub enum Work {
     // no light either way
     Cut(usize),
     Mend(usize),
-}
-
-impl Work {
-    // Whether it puts an ONU in.
-    pub fn plugs(&self) -> bool {
-        matches!(
-            self,
-            Work::Port {
-                change: Change::Plug { .. },
-                ..
-            }
-        )
-    }
 }
 
 // What is done with the frames.
@@ -81,11 +76,16 @@ pub enum Drive {
     // a slot is missed in the next frames
     Miss { slot: usize, frames: u64 },
     Picture(u64),
+    // of a stretch of frames
+    Svg { from: u64, to: u64 },
+    // of a place
+    Life(usize),
 }
 
 #[derive(Drop)]
 pub enum Command {
     Scenario(String),
+    Plug(Plug),
     Work(Work),
     Drive(Drive),
     Progress(bool),
@@ -108,6 +108,8 @@ const FRAMES: &str = "a number of frames up to 1000000";
 const SLOT: &str = "a slot, 1 to 53";
 
 const PLACES: &str = "a number of places, 1 to 64";
+
+const PLACE: &str = "a place, 0 to 63";
 
 const LATE: &str = "late and 0 to 3, or the end of the line";
 
@@ -161,12 +163,16 @@ impl Rest<'_> {
         }))
     }
 
+    fn plug(&mut self) -> Result<Plug, NoCommand> {
+        Ok(Plug {
+            port: self.words.port()?,
+            serial: self.serial()?,
+            trip: self.words.word32()?,
+        })
+    }
+
     fn change(&mut self, name: &str) -> Result<Change, NoCommand> {
         Ok(match name {
-            "onu" => Change::Plug {
-                serial: self.words.hex64()?,
-                trip: self.words.word32()?,
-            },
             "fibre" => Change::FibreBits(self.words.word32()?),
             "loss" => Change::Pattern(self.words.hex64()?),
             "trip" => Change::Host(HostEvent::Trip(self.words.word32()?)),
@@ -229,6 +235,13 @@ impl Rest<'_> {
         Ok(Drive::Miss { slot, frames })
     }
 
+    fn svg(&mut self) -> Result<Drive, NoCommand> {
+        Ok(Drive::Svg {
+            from: self.words.word64()?,
+            to: self.words.word64()?,
+        })
+    }
+
     fn progress(&mut self) -> Result<Command, NoCommand> {
         match self.words.next() {
             Some("on") => Ok(Command::Progress(true)),
@@ -251,6 +264,8 @@ impl Rest<'_> {
             "settle" => Ok(Drive::Traffic(self.settle()?)),
             "miss" => self.miss(),
             "picture" => Ok(Drive::Picture(self.words.word64()?)),
+            "svg" => self.svg(),
+            "life" => Ok(Drive::Life(self.words.number(63, PLACE)?)),
             _ => Err(NoCommand::Expected(COMMAND)),
         }
     }
@@ -259,8 +274,8 @@ impl Rest<'_> {
     fn command(&mut self, name: &str) -> Result<Command, NoCommand> {
         match name {
             "scenario" => self.scenario(),
-            "onu"
-            | "fibre"
+            "onu" => Ok(Command::Plug(self.plug()?)),
+            "fibre"
             | "loss"
             | "trip"
             | "power"

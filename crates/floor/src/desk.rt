@@ -1,11 +1,13 @@
 // The line on the desk, with the dockets of the frames that are out.
-ghost use Rattle.std.specs.Prelude.{◌≡◌, ◌≤◌, ◌<◌, ◌↔◌, ◌-◌, [], true, length, vec_capacity, IsSome, IfOk, All};
-ghost use Rattle.driver.specs.Driver.{Came, Goes};
+ghost use Rattle.std.specs.Prelude.{◌≡◌, ◌≤◌, ◌<◌, ◌↔◌, ◌-◌, [], true, length, vec_capacity, IsSome, IfOk, All, option_map};
+ghost use Rattle.driver.specs.Driver.{Came, Goes, Sent, Went, with_head};
+ghost use Rattle.head.specs.Steps.{set_up_answer, set_up_head, enter_answer, enter_head, hold_answer, hold_head, release_answer, release_head};
 ghost use Rattle.line.specs.Run.{New, Distinct};
-ghost use Rattle.plant.specs.Lawful.{Drifts};
-ghost use Rattle.tree_script.specs.Lawful.{tree_does};
-ghost use Rattle.tree_script.specs.Tree.{line_means};
-ghost use Rattle.floor.specs.Dockets.{all_held};
+ghost use Rattle.ports.specs.Lawful.{tree_does};
+ghost use Rattle.ports.specs.Tree.{line_means};
+ghost use Rattle.std.specs.List.{slice_get};
+ghost use Rattle.head.specs.declared.docket.Docket.{Docket};
+ghost use Rattle.floor.specs.Dockets.{all_held, with_docket};
 
 use crate::command::Work;
 use crate::work::work;
@@ -15,8 +17,8 @@ use field::number::SerialNumber;
 use field::octets::Octets;
 use head::docket::{Docket, Refused};
 use head::refusal::Refusal;
+use ports::tree::Tree;
 use std::alloc::{AllocError, Global};
-use tree_script::tree::Tree;
 
 // No docket can be let go: they are settled, the oldest first, or the desk is closed.
 pub struct Desk {
@@ -37,13 +39,14 @@ impl Desk {
         Ok(Desk { line, dockets })
     }
 
-    pub fn line(&self) -> &Line<Tree> {
+    pub fn line(&self) -> &Line<Tree>
+        ensures { result.now ≡ self.now.line }
+    {
         &self.line
     }
 
-    // As far as its ONUs only move by themselves, the succession goes on.
     pub fn work(&mut self, task: Work)
-        ensures goes { Drifts (line_means self.old.line.plant) (line_means self.new.line.plant) → Goes line_means tree_does self.old.line self.new.line }
+        ensures goes { Goes line_means tree_does self.old.line self.new.line }
     {
         work(self.line.plant_mut(), task);
     }
@@ -55,42 +58,55 @@ impl Desk {
         first: u64,
         calendar: &[u8],
     ) -> Result<(), Refusal>
+        ensures answer { result ≡ set_up_answer self.old.line.head guard first calendar.now }
+        ensures line { self.new.line ≡ with_head (set_up_head self.old.line.head guard pattern first calendar.now) self.old.line }
         ensures goes { Goes line_means tree_does self.old.line self.new.line }
     {
         self.line.set_up(guard, pattern, first, calendar)
     }
 
     pub fn enter(&mut self, place: u64, serial: SerialNumber) -> Result<(), Refusal>
+        ensures answer { result ≡ enter_answer self.old.line.head place serial }
+        ensures line { self.new.line ≡ with_head (enter_head self.old.line.head place serial) self.old.line }
         ensures goes { Goes line_means tree_does self.old.line self.new.line }
     {
         self.line.enter(place, serial)
     }
 
     pub fn hold(&mut self, place: u64) -> Result<(), Refusal>
+        ensures answer { result ≡ hold_answer self.old.line.head place }
+        ensures line { self.new.line ≡ with_head (hold_head self.old.line.head place) self.old.line }
         ensures goes { Goes line_means tree_does self.old.line self.new.line }
     {
         self.line.hold(place)
     }
 
     pub fn release(&mut self, place: u64) -> Result<(), Refusal>
+        ensures answer { result ≡ release_answer self.old.line.head place }
+        ensures line { self.new.line ≡ with_head (release_head self.old.line.head place) self.old.line }
         ensures goes { Goes line_means tree_does self.old.line self.new.line }
     {
         self.line.release(place)
     }
 
     // How many frames are out.
-    pub fn out(&self) -> usize {
+    pub fn out(&self) -> usize
+        ensures { result ≡ length self.now.dockets.items }
+    {
         self.dockets.len()
     }
 
     // The oldest frame that is out.
-    pub fn oldest(&self) -> Option<u64> {
+    pub fn oldest(&self) -> Option<u64>
+        ensures { result ≡ option_map (λ (docket : Docket). docket.frame) (slice_get self.now.dockets.items 0) }
+    {
         self.dockets.first().map(|docket| docket.frame())
     }
 
     // Sends a frame, and keeps its docket.
     pub fn send(&mut self, buffer: &mut [u8; 96]) -> Result<u64, Halt>
-        ensures goes { Goes line_means tree_does self.old.line self.new.line }
+        ensures sent { Sent line_means tree_does (with_docket result) self.old.line self.new.line }
+        ensures goes { Went line_means tree_does result self.old.line self.new.line }
     {
         let docket = self.line.send(buffer)?;
         let frame = docket.frame();
@@ -100,7 +116,7 @@ impl Desk {
 
     // Settles the oldest frame that is out.
     pub fn settle(&mut self, marks: &[u8; 53]) -> Option<u64>
-        ensures some { IsSome result ↔ (0 < length self.old.dockets.items) }
+        ensures answer { result ≡ option_map (λ (docket : Docket). docket.frame) (slice_get self.old.dockets.items 0) }
         ensures fewer { length self.new.dockets.items ≡ length self.old.dockets.items - 1 }
         ensures goes { Goes line_means tree_does self.old.line self.new.line }
     {

@@ -2,30 +2,34 @@
 use crate::command::{Call, SetUp, Work};
 use crate::desk::Desk;
 use crate::kept::{Kept, Records};
+use crate::lives::{Lives, Turn};
 use crate::missed::Missed;
 use crate::spacing::Spacing;
 use crate::tally::Tally;
 use crate::watch::{Change, ShownView};
 use head::head::look::View;
 use head::refusal::Refusal;
+use ports::tree::Tree;
 use report::record::Record;
 use rules::settings::{Settings, calendar, guard};
 use rules::slot::Slot;
 use std::alloc::{AllocError, Global};
 use std::{fmt, io};
-use tree_script::tree::Tree;
 
 mod frames;
+mod pictures;
 
 // It is closed at the end, with all its frames settled.
 pub struct Floor {
     desk: Desk,
     settings: Settings,
-    // the number of the frame that is sent next
+    // the number of the first frame, and of the frame that is sent next
+    first: u64,
     next: u64,
     // the places as they were last told
     views: [Option<View>; 64],
     kept: Kept,
+    lives: Lives,
     spacing: Spacing,
     missed: Missed,
     tally: Tally,
@@ -65,12 +69,15 @@ fn window(frame: u64, place: u64, records: &Records) -> Option<&Record> {
 
 impl Floor {
     pub fn new(heap: Global, plant: Tree) -> Result<Floor, AllocError> {
+        let lives = Lives::new(heap)?;
         Ok(Floor {
             desk: Desk::new(heap, plant)?,
             settings: Settings::new(),
+            first: 0,
             next: 0,
             views: [None; 64],
             kept: Kept::new(heap),
+            lives,
             spacing: Spacing::new(heap),
             missed: Missed::none(),
             tally: Tally::default(),
@@ -103,8 +110,9 @@ impl Floor {
                 after,
                 heard,
             };
-            for happened in change.all().iter().flatten() {
+            for happened in change.all().into_iter().flatten() {
                 println!(rt; "frame {frame} place {place} {happened}")?;
+                self.lives.note(place, Turn { frame, happened })?;
             }
         }
         *before = now;
@@ -136,6 +144,7 @@ impl Floor {
     fn set_up(&mut self, with: &SetUp) -> Result<(), Refusal> {
         self.desk
             .set_up(with.guard, with.pattern, with.first, &with.calendar)?;
+        self.first = with.first;
         self.next = with.first;
         self.settings = Settings {
             guard: guard(with.guard).unwrap_or(self.settings.guard),

@@ -86,6 +86,11 @@ impl Kept {
         }
     }
 
+    // The oldest first.
+    pub fn frames(&self) -> &VecDeque<KeptFrame> {
+        &self.frames
+    }
+
     pub fn find(&self, frame: u64) -> Option<&KeptFrame> {
         self.frames.iter().find(|kept| kept.frame == frame)
     }

@@ -9,7 +9,7 @@ use std::fmt;
 
 // To whom a slot falls.
 #[derive(Clone, Copy, PartialEq, Eq)]
-enum Owner {
+pub enum Owner {
     // kept for a place that is being measured
     Window(u8),
     Place(u8),
@@ -38,7 +38,7 @@ impl fmt::Display for Owner {
 
 // What was heard in a slot.
 #[derive(Clone, Copy, PartialEq, Eq)]
-enum Heard {
+pub enum Heard {
     Unsettled,
     Dark,
     Broken,
@@ -88,9 +88,9 @@ impl fmt::Display for ShownGrant {
 
 // What a sent slot granted, and what was heard in it.
 #[derive(Clone, Copy, PartialEq, Eq)]
-struct Sent {
-    grant: Grant,
-    heard: Heard,
+pub struct Sent {
+    pub grant: Grant,
+    pub heard: Heard,
 }
 
 impl fmt::Display for Sent {
@@ -102,12 +102,12 @@ impl fmt::Display for Sent {
 
 // A run of slots that are alike, counted from 1.
 #[derive(Clone, Copy)]
-struct Alike {
-    first: usize,
-    last: usize,
-    owner: Owner,
+pub struct Alike {
+    pub first: usize,
+    pub last: usize,
+    pub owner: Owner,
     // none in a frame that is still to come
-    sent: Option<Sent>,
+    pub sent: Option<Sent>,
 }
 
 impl Alike {
@@ -154,7 +154,7 @@ impl Picture<'_> {
         Some(Sent { grant, heard })
     }
 
-    fn slot(&self, x: usize) -> Alike {
+    pub fn slot(&self, x: usize) -> Alike {
         let slot = Slot {
             frame: self.frame,
             x: x as u64,

@@ -1,12 +1,12 @@
 // Scenarios run line by line.
-use crate::command::{Command, Drive, Work};
+use crate::command::{Command, Drive, Plug, Work};
 use crate::floor::Floor;
 use crate::work::work;
+use ports::tree::{PORTS, Tree};
 use std::alloc::{AllocError, Global};
 use std::io::{BufRead, BufReader};
 use std::{io, mem};
 use tree_script::shown::ShownOnu;
-use tree_script::tree::{PORTS, Tree};
 use tree_script::words::NoCommand;
 
 pub struct Script {
@@ -89,21 +89,30 @@ impl Script {
     }
 
     // No ONU is put in once the head was called.
-    fn work(&mut self, rt: &impl Print, number: u64, task: Work) -> io::Result<()> {
+    fn plug(&mut self, rt: &impl Print, number: u64, onu: Plug) -> io::Result<()> {
+        if self.floor.is_some() {
+            return println!(rt; "line {number}: expected no ONU after the first call");
+        }
+        let Plug { port, serial, trip } = onu;
+        self.plant.plug(port, serial, trip);
+        Ok(())
+    }
+
+    fn work(&mut self, task: Work) {
         match &mut self.floor {
             None => work(&mut self.plant, task),
-            Some(_) if task.plugs() => {
-                return println!(rt; "line {number}: expected no ONU after the first call");
-            }
             Some(floor) => floor.work(task),
         }
-        Ok(())
     }
 
     fn act(&mut self, rt: &impl Print, number: u64, command: Command) -> io::Result<()> {
         match command {
             Command::Scenario(name) => self.scenario(rt, name),
-            Command::Work(task) => self.work(rt, number, task),
+            Command::Plug(onu) => self.plug(rt, number, onu),
+            Command::Work(task) => {
+                self.work(task);
+                Ok(())
+            }
             Command::Show => self.show(rt),
             Command::Progress(on) => {
                 self.progress = on;

@@ -44,7 +44,7 @@ impl fmt::Display for ShownAlarms {
 }
 
 #[derive(Clone, Copy)]
-struct ShownCause(Cause);
+pub struct ShownCause(pub Cause);
 
 impl fmt::Display for ShownCause {
     fn fmt<W: fmt::Write>(&self, f: &mut fmt::Formatter<W>) -> fmt::Result {
@@ -100,6 +100,22 @@ pub enum Happened {
     Alarms(Alarms),
     // rounds that failed with light
     Failures(u64),
+}
+
+impl Happened {
+    // The phase that the place is in from then on, if that changed.
+    pub fn phase(&self) -> Option<Phase> {
+        match *self {
+            Happened::Phase(phase) => Some(phase),
+            Happened::Ended { .. } => Some(Phase::Waiting),
+            _ => None,
+        }
+    }
+
+    // Whether it is drawn in the picture of the place's life.
+    pub fn is_drawn(&self) -> bool {
+        self.phase().is_some() || matches!(self, Happened::Measured { .. })
+    }
 }
 
 impl fmt::Display for Happened {

@@ -1,8 +1,15 @@
 // Work on the plant.
-use crate::command::Work;
-use tree_script::tree::{Change, HostEvent, Tree};
+ghost use Rattle.plant.specs.Lawful.{Drifts};
+ghost use Rattle.ports.specs.Tree.{line_means};
 
-pub fn work(plant: &mut Tree, task: Work) {
+use crate::command::Work;
+use ports::tree::{Change, HostEvent, Tree};
+
+// Its ONUs might have done it by themselves.
+#[tactic(auto, using(plant::proofs::Lists::drifts_twice))]
+pub fn work(plant: &mut Tree, task: Work)
+    ensures { Drifts (line_means plant.old) (line_means plant.new) }
+{
     match task {
         Work::Port { port, change } => plant.change(port, change),
         Work::Feeder(bits) => plant.set_feeder(bits),

@@ -1,6 +1,7 @@
 // The dockets of the frames that are out, the oldest first.
 ghost use Rattle.std.specs.Prelude.{◌≡◌, ◌-◌, ◌+◌, ◌<◌, true, length, OnOk, OnErr};
-ghost use Rattle.replay_script.specs.Held.{count, with_newest, agree};
+ghost use Rattle.head.specs.Steps.{send_answer, send_head, send_buffer};
+ghost use Rattle.replay_script.specs.Held.{count, with_newest, agree, number_sent, held_sent, oldest_answer, oldest_head, held_settled};
 
 use head::docket::{Docket, Refused};
 use head::head::Head;
@@ -33,7 +34,11 @@ impl Held {
     // Sends a frame, whose docket is kept, and says its number.
     pub(crate) fn send(self, head: &mut Head, buffer: &mut [u8]) -> (Held, Result<u64, Refusal>)
         requires { agree self head.old ≡ true }
-        ensures { agree result.0 head.new ≡ true }
+        ensures agree { agree result.0 head.new ≡ true }
+        ensures held { result.0 ≡ held_sent (send_answer head.old (length buffer.old)) self }
+        ensures answer { result.1 ≡ number_sent (send_answer head.old (length buffer.old)) }
+        ensures head { head.new ≡ send_head head.old (length buffer.old) }
+        ensures buffer { buffer.new ≡ send_buffer head.old buffer.old }
     {
         match head.send(buffer) {
             Ok(docket) => {
@@ -49,6 +54,9 @@ impl Held {
         requires { agree self head.old ≡ true }
         ensures agree { agree result.0 head.new ≡ true }
         ensures fewer { length report.now ≡ 954 → count result.0 ≡ count self - 1 }
+        ensures held { result.0 ≡ held_settled self head.old (length report.now) }
+        ensures answer { result.1 ≡ oldest_answer self head.old (length report.now) }
+        ensures head { head.new ≡ oldest_head self head.old report.now }
     {
         match self {
             Held::Nothing => (Held::Nothing, Err(Refusal::Docket)),

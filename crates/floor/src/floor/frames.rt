@@ -1,8 +1,7 @@
 // Frames out and reports in.
 use super::Floor;
 use crate::command::{Drive, Traffic};
-use crate::kept::{KEPT, records};
-use crate::picture::Picture;
+use crate::kept::records;
 use crate::tally::Phases;
 use driver::halt::Halt;
 use std::alloc::AllocError;
@@ -110,27 +109,13 @@ impl Floor {
         }
     }
 
-    fn picture(&self, rt: &impl Print, frame: u64) -> io::Result<()> {
-        let kept = self.kept.find(frame);
-        let picture = Picture {
-            frame,
-            settings: &self.settings,
-            kept,
-        };
-        match kept {
-            Some(_) => println!(rt; "picture of frame {frame}\n{picture}"),
-            None if frame >= self.next => {
-                println!(rt; "picture of frame {frame}, still to come\n{picture}")
-            }
-            None => println!(rt; "picture of frame {frame}: only the last {KEPT} frames are kept"),
-        }
-    }
-
     pub fn drive(&mut self, rt: &impl Print, drive: Drive, progress: bool) -> io::Result<()> {
         match drive {
             Drive::Call(call) => self.call(rt, &call),
             Drive::Traffic(traffic) => self.pass(rt, traffic, progress),
             Drive::Picture(frame) => self.picture(rt, frame),
+            Drive::Svg { from, to } => self.svg(rt, from, to),
+            Drive::Life(place) => self.life(rt, place),
             Drive::Miss { slot, frames } => {
                 self.missed.miss(slot, self.next, frames);
                 Ok(())
@@ -155,14 +140,17 @@ impl Floor {
         let Floor {
             desk,
             settings: _,
+            first: _,
             next: _,
             views: _,
             kept,
+            lives,
             spacing,
             missed: _,
             tally: _,
         } = self;
         drop(kept);
+        drop(lives);
         drop(spacing);
         desk.close();
     }
