@@ -1,1 +1,2 @@
-pub mod Kinds
+pub mod Wanted
+pub mod Line

@@ -1,4 +1,9 @@
 // A line of text read as a cell. What is read is what `readable::show` prints, with any blanks between the words.
+ghost use Rattle.std.specs.Prelude.{◌≡◌, ◌+◌, ◌<◌, ◌≤◌, ◌++◌, IfOk, MatchOption, replicate, take};
+ghost use Rattle.readable.specs.Shown.{grants_text};
+ghost use Rattle.keyed.specs.Words.{AreWords};
+ghost use Rattle.cell_line.specs.Line.{cell_words};
+
 use crate::line::Cell;
 use crate::parse::words::Words;
 use crate::run::read_run;
@@ -12,22 +17,37 @@ mod downstream;
 pub(crate) mod value;
 mod words;
 
+// Writes one grant to so many places from one on, and gives the place after those; none if the cell has no room for them.
+fn write_run(grants: &mut [Grant; 27], from: usize, run: Run) -> Option<usize>
+    requires { from ≤ 27 }
+    ensures { MatchOption result (27 < from + run.count) (λ end. (end ≡ from + run.count) × (end ≤ 27) × (take end grants.new ≡ take from grants.old ++ replicate run.count run.grant)) }
+{
+    let end = from.checked_add(run.count)?;
+    if end > 27 {
+        return None;
+    }
+    for place in from..end {
+        grants[place] = run.grant;
+    }
+    Some(end)
+}
+
 // A list of runs, each of another grant than the one before it.
-fn grants(list: &str) -> Result<[Grant; 27], Wanted> {
+fn grants(list: &str) -> Result<[Grant; 27], Wanted>
+    ensures { IfOk result (λ grants. grants_text grants ≡ list.now) }
+{
     let mut grants = [Grant::Idle; 27];
-    let mut left = grants.as_mut_slice();
+    let mut filled = 0;
     let mut last = None;
     for part in list.split(',') {
-        let Run { grant, count } = read_run(part)?;
-        if last == Some(grant) {
+        let run = read_run(part)?;
+        if last == Some(run.grant) {
             return Err(Wanted::JoinedRun);
         }
-        let (filled, rest) = left.split_at_mut_checked(count).ok_or(Wanted::AllGrants)?;
-        filled.fill(grant);
-        left = rest;
-        last = Some(grant);
+        filled = write_run(&mut grants, filled, run).ok_or(Wanted::AllGrants)?;
+        last = Some(run.grant);
     }
-    if left.is_empty() {
+    if filled == 27 {
         Ok(grants)
     } else {
         Err(Wanted::AllGrants)
@@ -37,11 +57,13 @@ fn grants(list: &str) -> Result<[Grant; 27], Wanted> {
 impl FromStr for Cell {
     type Err = Wanted;
 
+    ghost from_str_gives = { λ line read. IfOk read (λ cell. AreWords line (cell_words cell.first cell.grants cell.message)) };
+
     fn from_str(line: &str) -> Result<Cell, Wanted> {
         let mut words = Words::new(line);
-        if words.next() != Some("cell") {
+        let Some("cell") = words.next() else {
             return Err(Wanted::Cell);
-        }
+        };
         let first = words.field(Key::Bit)?;
         let grants = grants(words.text(Key::Grants).ok_or(Wanted::GrantList)?)?;
         let kind = words.field(Key::Message)?;

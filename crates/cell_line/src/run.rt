@@ -1,12 +1,15 @@
 // Equal grants that follow one another, read.
-ghost use Rattle.std.specs.Prelude.{◌≤◌, IfOk};
+ghost use Rattle.std.specs.Prelude.{◌≡◌, ◌≢◌, ℕ, ◌≤◌, IfOk, MatchResult, decimal};
+ghost use Rattle.readable.specs.Shown.{grant_name, run_text};
 
-use crate::parse::value::{Value, decimal};
+use crate::parse::value::{Value, number};
 use crate::wanted::Wanted;
 use field::grant::Grant;
 use readable::run::Run;
 
-fn grant(name: &str) -> Result<Grant, Wanted> {
+fn grant(name: &str) -> Result<Grant, Wanted>
+    ensures { MatchResult result (λ grant. grant_name grant ≡ name.now) (λ wanted. (wanted ≡ Wanted.GrantName) × ((grant : Grant) → grant_name grant ≢ name.now)) }
+{
     match name {
         "ranging" => Ok(Grant::Ranging),
         "unassigned" => Ok(Grant::Unassigned),
@@ -17,16 +20,18 @@ fn grant(name: &str) -> Result<Grant, Wanted> {
 
 // The length of a run that is longer than one grant.
 fn length(text: &str) -> Result<usize, Wanted>
-    ensures { IfOk result (λ n. n ≤ 27) }
+    ensures { MatchResult result (λ n. (2 ≤ n) × (n ≤ 27) × (decimal n ≡ text.now)) (λ wanted. (wanted ≡ Wanted.RunLength) × ((n : ℕ) → 2 ≤ n → n ≤ 27 → decimal n ≢ text.now)) }
 {
-    match decimal(text) {
+    match number(text) {
         Some(count) if 2 <= count && count <= 27 => Ok(count as usize),
         _ => Err(Wanted::RunLength),
     }
 }
 
 // A run from its text, as `5*3`.
-pub(crate) fn read_run(text: &str) -> Result<Run, Wanted> {
+pub(crate) fn read_run(text: &str) -> Result<Run, Wanted>
+    ensures { IfOk result (λ run. (1 ≤ run.count) × (run.count ≤ 27) × (run_text run.grant run.count ≡ text.now)) }
+{
     match text.split_once('*') {
         None => Ok(Run {
             grant: grant(text)?,

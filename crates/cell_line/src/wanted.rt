@@ -1,4 +1,7 @@
 // What a line should have had where reading it stopped.
+ghost use Rattle.std.specs.Prelude.{Some};
+ghost use Rattle.cell_line.specs.Wanted.{wanted_text};
+
 use keyed::key::Key;
 use std::error::Error;
 use std::fmt;
@@ -34,6 +37,8 @@ pub enum Wanted {
 }
 
 impl fmt::Display for Wanted {
+    ghost output = { λ wanted. Some (wanted_text wanted) };
+
     fn fmt<W: fmt::Write>(&self, f: &mut fmt::Formatter<W>) -> fmt::Result {
         match *self {
             Wanted::Cell => f.write_str("expected cell"),

@@ -1,1 +1,5 @@
 mod Hexes
+mod Reading
+mod Wording
+pub mod Again
+mod OneWay

@@ -1,6 +1,9 @@
 // Bytes as hex digits, two for each byte, and back.
-ghost use Rattle.std.specs.Prelude.{◌≡◌, ◌<◌, ◌++◌, Some, IfSome, string_bytes, OnOk};
+ghost use Rattle.std.specs.Prelude.{◌≡◌, ◌+◌, ◌*◌, ◌/◌, ◌%◌, ◌<◌, ◌++◌, Some, List, ℕ, length, option_map, string_bytes, IfSome, MatchOption, MatchResult, OnOk};
+ghost use Rattle.std.specs.Simd.{first_chunks};
 ghost use Rattle.keyed.specs.Fields.{hexed};
+ghost use Rattle.keyed.specs.Hex.{digit, pair, exactly, BytesAndDigitsAgree, word_bytes, words_bytes};
+ghost use Rattle.keyed.specs.Words.{FirstWords, AreWords, WordsAreOne};
 ghost use Rattle.keyed.specs.NotHex.{not_hex_words};
 ghost use Rattle.keyed.specs.declared.hex.NotHex.TheVariants.{Memory};
 
@@ -68,25 +71,30 @@ pub fn push_digits(out: &mut String, bytes: &[u8]) -> Result<(), AllocError>
 }
 
 // What a lowercase digit counts.
-fn digit_value(digit: u8) -> Option<u8>
-    ensures { IfSome result (λ v. v < 16) }
+fn digit_value(code: u8) -> Option<u8>
+    ensures value { result ≡ digit code }
+    ensures small { IfSome result (λ v. v < 16) }
 {
-    match digit {
-        b'0'..=b'9' => Some(digit - b'0'),
-        b'a'..=b'f' => Some(digit - b'a' + 10),
+    match code {
+        b'0'..=b'9' => Some(code - b'0'),
+        b'a'..=b'f' => Some(code - b'a' + 10),
         _ => None,
     }
 }
 
 // The byte of two lowercase digits.
-fn byte(high: u8, low: u8) -> Option<u8> {
+fn byte(high: u8, low: u8) -> Option<u8>
+    ensures { result ≡ pair high low }
+{
     let high = digit_value(high)?;
     let low = digit_value(low)?;
     Some(high * 16 + low)
 }
 
 // A text two bytes at a time, if none is left over.
-fn digit_pairs(text: &str) -> Option<&[[u8; 2]]> {
+fn digit_pairs(text: &str) -> Option<&[[u8; 2]]>
+    ensures { MatchOption result (length text.now % 2 ≡ 1) (λ pairs. (length text.now ≡ 2 * length pairs.now) × (pairs.now ≡ first_chunks 2 (length pairs.now) text.now)) }
+{
     match text.as_bytes().as_chunks() {
         (pairs, []) => Some(pairs),
         _ => None,
@@ -94,17 +102,26 @@ fn digit_pairs(text: &str) -> Option<&[[u8; 2]]> {
 }
 
 // Exactly N bytes in lowercase digits, or none.
-pub fn octets<const N: usize>(text: &str) -> Option<[u8; N]> {
-    let pairs = digit_pairs(text).filter(|pairs| pairs.len() == N)?;
+pub fn octets<const N: usize>(text: &str) -> Option<[u8; N]>
+    ensures { result ≡ exactly N text.now }
+{
+    let pairs = digit_pairs(text)?;
+    if pairs.len() != N {
+        return None;
+    }
     let mut bytes = [0u8; N];
-    for (place, [high, low]) in bytes.iter_mut().zip(pairs) {
-        *place = byte(*high, *low)?;
+    for (place, [high, low]) in pairs.iter().enumerate() {
+        bytes[place] = byte(*high, *low)?;
     }
     Some(bytes)
 }
 
 // Appends the bytes of one word of digits.
-fn push_word(bytes: &mut Vec<u8>, word: &str) -> Result<(), NotHex> {
+fn push_word(bytes: &mut Vec<u8>, word: &str) -> Result<(), NotHex>
+    ensures { MatchResult result
+        (λ _. option_map (λ read. bytes.old.items ++ read) (word_bytes word.now) ≡ Some bytes.new.items)
+        (λ e. e ≡ NotHex.Digits → word_bytes word.now ≡ None) }
+{
     for [high, low] in digit_pairs(word).ok_or(NotHex::Digits)? {
         let byte = byte(high.to_ascii_lowercase(), low.to_ascii_lowercase());
         bytes.push(byte.ok_or(NotHex::Digits)?)?;
@@ -113,10 +130,24 @@ fn push_word(bytes: &mut Vec<u8>, word: &str) -> Result<(), NotHex> {
 }
 
 // The bytes of a line of hex digits, with blanks between bytes or none.
-pub fn bytes(heap: Global, line: &str) -> Result<Vec<u8>, NotHex> {
+pub fn bytes(heap: Global, line: &str) -> Result<Vec<u8>, NotHex>
+    ensures { MatchResult result
+        (λ read. (words : List (List ℕ)) × AreWords line.now words × (words_bytes words ≡ Some read.items))
+        (λ e. e ≡ NotHex.Digits → (words : List (List ℕ)) × (rest : List ℕ) × FirstWords line.now words rest × (words_bytes words ≡ None)) }
+{
     let mut bytes = Vec::new(heap);
     for word in line.split_whitespace() {
         push_word(&mut bytes, word)?;
     }
     Ok(bytes)
 }
+
+// Reading undoes writing, and writing reading.
+pub fn reading_undoes_writing()
+    ensures { BytesAndDigitsAgree }
+{}
+
+// A text has one list of words.
+pub fn words_are_one()
+    ensures { WordsAreOne }
+{}

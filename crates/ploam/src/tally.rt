@@ -29,7 +29,7 @@ impl Tally {
 
     pub fn cell(&mut self, kind: Kind) {
         self.cells += 1;
-        if let Some((_, count)) = self.messages.get_mut(kind as usize) {
+        if let Some((_, count)) = self.messages.get_mut(kind.place()) {
             *count += 1;
         }
     }

@@ -1,5 +1,6 @@
 // The twenty kinds of message by name.
-ghost use Rattle.std.specs.Prelude.{◌≡◌, MatchOption, Some, ◌≢◌};
+ghost use Rattle.std.specs.Prelude.{◌≡◌, MatchOption, Some, ◌≢◌, slice_get};
+ghost use Rattle.readable.specs.declared.kind.TheConstants.{KINDS};
 ghost use Rattle.readable.specs.Names.{kind_name, kind_of};
 
 use message::downstream::Downstream;
@@ -78,6 +79,13 @@ impl Kind {
             Kind::Pst => "PST",
             Kind::BerInterval => "BER_interval",
         }
+    }
+
+    // Where it stands in the list of kinds.
+    pub fn place(self) -> usize
+        ensures { slice_get KINDS result ≡ Some self }
+    {
+        self as usize
     }
 
     // The kind of that name, if there is one.

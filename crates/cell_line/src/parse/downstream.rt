@@ -1,7 +1,8 @@
 // The fields of a message to the ONUs, taken from the words after its name.
-ghost use Rattle.cell_line.specs.Kinds.{OfKind};
+ghost use Rattle.std.specs.Prelude.{[], ◌∷◌, IfOk};
+ghost use Rattle.keyed.specs.Fields.{number, flag};
+ghost use Rattle.cell_line.specs.Line.{NextFields, ReadsMessage};
 
-use crate::parse::value::small;
 use crate::parse::words::Words;
 use crate::wanted::Wanted;
 use field::bounded::Bounded;
@@ -12,7 +13,7 @@ use readable::kind::Kind;
 
 impl Words<'_> {
     fn rx_control(&mut self) -> Result<Downstream, Wanted>
-        ensures { OfKind Kind.UpstreamRxControl result }
+        ensures { ReadsMessage self.old Kind.UpstreamRxControl result self.new }
     {
         let part = if self.field(Key::Part)? {
             RxPart::Second(self.field(Key::Bytes)?)
@@ -23,7 +24,7 @@ impl Words<'_> {
     }
 
     fn upstream_overhead(&mut self) -> Result<Downstream, Wanted>
-        ensures { OfKind Kind.UpstreamOverhead result }
+        ensures { ReadsMessage self.old Kind.UpstreamOverhead result self.new }
     {
         Ok(Downstream::UpstreamOverhead {
             guard: self.field(Key::Guard)?,
@@ -33,7 +34,7 @@ impl Words<'_> {
     }
 
     fn ranging_time(&mut self) -> Result<Downstream, Wanted>
-        ensures { OfKind Kind.RangingTime result }
+        ensures { ReadsMessage self.old Kind.RangingTime result self.new }
     {
         Ok(Downstream::RangingTime {
             pon_id: self.field(Key::PonId)?,
@@ -42,7 +43,7 @@ impl Words<'_> {
     }
 
     fn serial_number_mask(&mut self) -> Result<Downstream, Wanted>
-        ensures { OfKind Kind.SerialNumberMask result }
+        ensures { ReadsMessage self.old Kind.SerialNumberMask result self.new }
     {
         Ok(Downstream::SerialNumberMask {
             bits: self.field(Key::Bits)?,
@@ -51,7 +52,7 @@ impl Words<'_> {
     }
 
     fn assign_pon_id(&mut self) -> Result<Downstream, Wanted>
-        ensures { OfKind Kind.AssignPonId result }
+        ensures { ReadsMessage self.old Kind.AssignPonId result self.new }
     {
         Ok(Downstream::AssignPonId {
             pon_id: self.field(Key::PonId)?,
@@ -60,7 +61,7 @@ impl Words<'_> {
     }
 
     fn disable_serial_number(&mut self) -> Result<Downstream, Wanted>
-        ensures { OfKind Kind.DisableSerialNumber result }
+        ensures { ReadsMessage self.old Kind.DisableSerialNumber result self.new }
     {
         let access = match self.text(Key::Access) {
             Some("deny") => Access::Deny(self.serial()?),
@@ -72,7 +73,7 @@ impl Words<'_> {
     }
 
     fn churning_key_update(&mut self) -> Result<Downstream, Wanted>
-        ensures { OfKind Kind.ChurningKeyUpdate result }
+        ensures { ReadsMessage self.old Kind.ChurningKeyUpdate result self.new }
     {
         Ok(Downstream::ChurningKeyUpdate {
             pon_id: self.field(Key::PonId)?,
@@ -81,7 +82,9 @@ impl Words<'_> {
     }
 
     // A code and then its flag.
-    fn allocation(&mut self, code: Key, active: Key) -> Result<Allocation, Wanted> {
+    fn allocation(&mut self, code: Key, active: Key) -> Result<Allocation, Wanted>
+        ensures { IfOk result (λ allocation. NextFields self.old (number code allocation.code.value ∷ flag active allocation.active ∷ []) self.new) }
+    {
         Ok(Allocation {
             code: self.field(code)?,
             active: self.field(active)?,
@@ -89,7 +92,7 @@ impl Words<'_> {
     }
 
     fn grant_allocation(&mut self) -> Result<Downstream, Wanted>
-        ensures { OfKind Kind.GrantAllocation result }
+        ensures { ReadsMessage self.old Kind.GrantAllocation result self.new }
     {
         Ok(Downstream::GrantAllocation {
             pon_id: self.field(Key::PonId)?,
@@ -99,7 +102,9 @@ impl Words<'_> {
     }
 
     // The offset of a part of the slot, and then its length.
-    fn minislot(&mut self) -> Result<Minislot, Wanted> {
+    fn minislot(&mut self) -> Result<Minislot, Wanted>
+        ensures { IfOk result (λ part. NextFields self.old (number Key.Offset part.offset ∷ number Key.Length part.length ∷ []) self.new) }
+    {
         let offset: Bounded<0, 52> = self.field(Key::Offset)?;
         let offset = offset.value();
         let wanted = Wanted::Number {
@@ -107,30 +112,30 @@ impl Words<'_> {
             low: 1,
             high: u64::from(53 - offset),
         };
-        self.text(Key::Length)
-            .and_then(small)
-            .and_then(|length| Minislot::new(offset, length))
-            .ok_or(wanted)
+        match self.field(Key::Length) {
+            Ok(length) => Minislot::new(offset, length).ok_or(wanted),
+            Err(_) => Err(wanted),
+        }
     }
 
     fn divided_slot_grant(&mut self) -> Result<Downstream, Wanted>
-        ensures { OfKind Kind.DividedSlotGrant result }
+        ensures { ReadsMessage self.old Kind.DividedSlotGrant result self.new }
     {
         let pon_id = self.field(Key::PonId)?;
         let active = self.field(Key::Active)?;
         let code = self.field(Key::Code)?;
         let part = self.minislot()?;
-        let service: Bounded<0, 255> = self.field(Key::Service)?;
+        let service = self.field(Key::Service)?;
         Ok(Downstream::DividedSlotGrant {
             pon_id,
             slot: Allocation { code, active },
             part,
-            service: service.value(),
+            service,
         })
     }
 
     fn configure_vp_vc(&mut self) -> Result<Downstream, Wanted>
-        ensures { OfKind Kind.ConfigureVpVc result }
+        ensures { ReadsMessage self.old Kind.ConfigureVpVc result self.new }
     {
         Ok(Downstream::ConfigureVpVc {
             pon_id: self.field(Key::PonId)?,
@@ -141,7 +146,7 @@ impl Words<'_> {
     }
 
     fn churned_vp(&mut self) -> Result<Downstream, Wanted>
-        ensures { OfKind Kind.ChurnedVp result }
+        ensures { ReadsMessage self.old Kind.ChurnedVp result self.new }
     {
         Ok(Downstream::ChurnedVp {
             pon_id: self.field(Key::PonId)?,
@@ -151,7 +156,7 @@ impl Words<'_> {
     }
 
     fn vendor_specific(&mut self) -> Result<Downstream, Wanted>
-        ensures { OfKind Kind.VendorSpecific result }
+        ensures { ReadsMessage self.old Kind.VendorSpecific result self.new }
     {
         Ok(Downstream::VendorSpecific {
             to: self.field(Key::PonId)?,
@@ -161,7 +166,7 @@ impl Words<'_> {
     }
 
     fn pst(&mut self) -> Result<Downstream, Wanted>
-        ensures { OfKind Kind.Pst result }
+        ensures { ReadsMessage self.old Kind.Pst result self.new }
     {
         Ok(Downstream::Pst {
             line: self.field(Key::Line)?,
@@ -171,7 +176,7 @@ impl Words<'_> {
     }
 
     fn ber_interval(&mut self) -> Result<Downstream, Wanted>
-        ensures { OfKind Kind.BerInterval result }
+        ensures { ReadsMessage self.old Kind.BerInterval result self.new }
     {
         Ok(Downstream::BerInterval {
             pon_id: self.field(Key::PonId)?,
@@ -181,7 +186,7 @@ impl Words<'_> {
 
     // A message of that kind.
     pub(crate) fn message(&mut self, kind: Kind) -> Result<Downstream, Wanted>
-        ensures { OfKind kind result }
+        ensures { ReadsMessage self.old kind result self.new }
     {
         match kind {
             Kind::NoMessage => Ok(Downstream::NoMessage),

@@ -7,11 +7,6 @@ use cell::fault::{CellFault, FrameFault, Place};
 use std::alloc::AllocError;
 use std::fmt;
 
-// Appending text to a `String` fails only for want of memory.
-pub fn appended(res: fmt::Result) -> Result<(), AllocError> {
-    res.map_err(|_| AllocError)
-}
-
 impl fmt::Display for Text<CellFault> {
     ghost output = { λ fault. Some (cell_fault_text fault.0) };
 

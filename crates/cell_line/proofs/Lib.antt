@@ -1,0 +1,3 @@
+mod Numerals
+mod Fielding
+mod Runs
