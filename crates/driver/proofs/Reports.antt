@@ -3,8 +3,7 @@ use Rattle.std.proofs.Common.{◌≡◌, ℕ, zero, suc, ◌+◌, ◌*◌, ◌-�
 use Rattle.std.specs.List.{between, Contains}
 use Rattle.std.proofs.lemmas.Bool.{cond_both, eqb-true, cases_lt}
 use Rattle.std.proofs.lemmas.Bool.Decides.{nat_tests}
-use Rattle.std.proofs.lemmas.List.{length-append, length-drop, take-append-le, take_all, drop_at, drop-append-le}
-use Rattle.std.proofs.lemmas.List.FromFn.{length-map-range_with_len}
+use Rattle.std.proofs.lemmas.List.{length-drop, take-append-le, take_all, drop_at, drop-append-le}
 use Rattle.field.specs.Bytes.{at}
 use Rattle.onu.specs.declared.answer.Kind.{Kind}
 use Rattle.onu.specs.declared.answer.Kind.TheVariants.{Ploam, Data}
@@ -17,6 +16,7 @@ use Rattle.report.specs.declared.offset.Offset.TheVariants.{Early, Late}
 use Rattle.report.specs.declared.record.Light.{Light}
 use Rattle.report.specs.declared.record.Light.TheVariants.{Dark, Broken}
 use Rattle.report.specs.declared.record.Record.{Record}
+use Rattle.receiver.proofs.Lengths.{record-length, reported-length}
 use Rattle.receiver.specs.Receiver.{blank, light_for, at_offset, found_record, answering, slot_record, reported}
 use Rattle.line.proofs.Bursts.{among_one, among_contains}
 use Rattle.line.proofs.Invariant.{Among, here, there}
@@ -89,19 +89,6 @@ slot_true frame x bs held mark sub =
     let w = among_filter (λ (a : Burst). eqb a.slot (53 * frame + x)) bs b m in
     (sub b (among_contains w.0), eqb-true b.slot (53 * frame + x) w.1)))
     (λ _. inl (blank_light Dark))
-
--- the k-th of the 18 bytes of each slot
-record-length : (r : Record) → length (record_bytes r) ≡ 18
-unfolding record_bytes
-record-length r = let l = length-map-range_with_len (λ k. slice_index r.message.bytes k) 0 12 in omega arith
-
-reported-length : (frame : ℕ) (bs : List Burst) (marks : List ℕ) (k : ℕ) → length (reported frame bs marks k) ≡ 18 * k
-unfolding reported
-reported-length frame bs marks zero = refl
-reported-length frame bs marks (suc k) =
-    let h = reported-length frame bs marks k in
-    let l = record-length (slot_record frame k bs (slice_index marks k)) in
-    simp length-append (omega arith)
 
 cut : (i j : ℕ) (xs ys : List ℕ) → length xs ≡ i → length ys ≡ 18 → j ≡ i + 18 → between i j (xs ++ ys) ≡ ys
 cut i j xs ys h l e = ap (take (j - i)) (drop_at xs ys i h) ∙ take_all (j - i) ys (omega arith)

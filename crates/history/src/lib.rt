@@ -7,3 +7,6 @@ ghost use Rattle.history.specs.History.{History};
 pub fn history_stands()
     ensures { History }
 {}
+
+#[cfg(test)]
+mod trials;

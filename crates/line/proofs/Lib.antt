@@ -15,4 +15,6 @@ pub mod Frames
 pub mod Answers
 pub mod Overlap
 pub mod Keeping
+pub mod Places
+pub mod Rounds
 pub mod Heads

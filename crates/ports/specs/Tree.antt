@@ -51,6 +51,11 @@ abbrev pub onu_of : Option Port → Option Onu
 onu_of None = None
 onu_of (Some p) = onu_in p
 
+-- a port of a new line, if there is one of that number: no ONU, no length, no loss
+abbrev pub AsNew : Option Port → Type 0
+AsNew None = Unit {0}
+AsNew (Some p) = (onu_in p ≡ None) × (p.plant.bits ≡ capped 32000 0) × (p.pattern ≡ 0)
+
 -- what a host's event is to the ONU
 abbrev pub host_move : HostEvent → Move
 host_move SignalLost = own SignalLoss

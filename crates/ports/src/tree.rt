@@ -1,9 +1,10 @@
 // A line with 65 ports behind a common fibre and a common drop.
-ghost use Rattle.std.specs.Prelude.{◌≡◌, ℕ, false, length, None, IfOk, nat_eq};
+ghost use Rattle.std.specs.Prelude.{◌≡◌, ℕ, ◌+◌, false, length, None, IfOk, nat_eq};
 ghost use Rattle.field.specs.Number.{capped};
 ghost use Rattle.plant.specs.Lawful.{Drifts};
 ghost use Rattle.bench.specs.Bench.{met};
-ghost use Rattle.ports.specs.Tree.{onu_in, line_means, port_at, onu_of, host_move, Changed, Plugged, AtPort};
+ghost use Rattle.ports.specs.declared.tree.TheConstants.{PORTS};
+ghost use Rattle.ports.specs.Tree.{onu_in, line_means, port_at, onu_of, host_move, AsNew, Changed, Plugged, AtPort};
 
 use bench::bench_onu::BenchOnu;
 use cell::reader::Cell;
@@ -96,11 +97,12 @@ fn plugged(port: &Port) -> Option<Onu>
 }
 
 impl Tree {
-    // All ports empty.
+    // All ports empty, and neither length nor loss anywhere.
     pub fn new(heap: Global) -> Result<Tree, AllocError>
         ensures feeder { IfOk result (λ t. (t.line.bits ≡ capped 32000 0) × (t.line.plant.pattern ≡ 0)) }
+        ensures ports { IfOk result (λ t. length t.line.plant.plant.one.arms.items + 1 ≡ PORTS) }
         ensures arms { IfOk result (λ t. length t.line.plant.plant.one.arms.items ≡ 64) }
-        ensures empty { IfOk result (λ t. (n : ℕ) → onu_of (port_at n t) ≡ None) }
+        ensures empty { IfOk result (λ t. (n : ℕ) → AsNew (port_at n t)) }
     {
         let arms = (0..LAST).map(|_| empty_port()).collect(heap)?;
         let ports = Splitter::new(Star::new(arms), empty_port());

@@ -1,5 +1,5 @@
 // A frame: room for its bursts, the head's send, and both cells heard.
-ghost use Rattle.std.specs.Prelude.{◌≡◌, ◌*◌, ◌^◌, ◌<◌, ◌≤◌, length};
+ghost use Rattle.std.specs.Prelude.{◌≡◌, ◌*◌, ◌^◌, ◌<◌, ◌≤◌, length, vec_capacity};
 ghost use Rattle.plant.specs.Hearing.{Admitted, Taken, room_in};
 ghost use Rattle.head.specs.Steps.{send_answer, sent_bytes};
 ghost use Rattle.driver.specs.Driver.{Heard, Sent, Went, after_send};
@@ -25,6 +25,7 @@ impl<P: Plant> Line<P> {
         requires early { frame < 2 ^ 48 }
         ensures head { self.new.head ≡ self.old.head }
         ensures heard { Heard P.Plant.does bytes.now frame self.old self.new }
+        ensures room { vec_capacity self.new.bursts ≡ vec_capacity self.old.bursts }
     {
         let first = 53 * frame;
         self.hear_cell(&bytes[..48], first);
@@ -35,6 +36,7 @@ impl<P: Plant> Line<P> {
     pub fn send(&mut self, buffer: &mut [u8; 96]) -> Result<Docket, Halt>
         ensures sent { Sent P.Plant.means P.Plant.does result self.old self.new }
         ensures buffer { buffer.new ≡ after_send result (sent_bytes self.old.head) buffer.old }
+        ensures room { vec_capacity self.old.bursts ≤ vec_capacity self.new.bursts }
         ensures goes { Went P.Plant.means P.Plant.does result self.old self.new }
     {
         let room = 54 * self.plant.count();

@@ -1,5 +1,5 @@
 // A frame's report: made by the bench receiver of what was heard, and settled.
-ghost use Rattle.std.specs.Prelude.{◌≡◌};
+ghost use Rattle.std.specs.Prelude.{◌≡◌, vec_capacity};
 ghost use Rattle.head.specs.Steps.{settle_answer, settle_head, handed_back};
 ghost use Rattle.receiver.specs.Receiver.{reported};
 ghost use Rattle.driver.specs.Driver.{kept, Goes};
@@ -16,6 +16,7 @@ impl<P: Plant> Line<P> {
         ensures head { self.new.head ≡ settle_head self.old.head docket.frame (reported docket.frame self.old.bursts.items marks.now 53) }
         ensures plant { self.new.plant ≡ self.old.plant }
         ensures bursts { self.new.bursts.items ≡ kept (settle_answer self.old.head docket.frame 954) docket.frame self.old.bursts.items }
+        ensures room { vec_capacity self.new.bursts ≡ vec_capacity self.old.bursts }
         ensures goes { Goes P.Plant.means P.Plant.does self.old self.new }
     {
         let frame = docket.frame();
