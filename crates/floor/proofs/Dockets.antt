@@ -1,7 +1,6 @@
 -- What a frame out and a report in make of the dockets that are out.
-use Rattle.std.proofs.Common.{◌≡◌, ℕ, zero, suc, ◌+◌, ◌*◌, ◌-◌, ◌^◌, ◌<◌, ◌≤◌, Bool, true, false, ◌&&◌, ◌||◌, List, [], ◌∷◌, ◌++◌, length, get_or, slice_index, Ok, Err, refl, sym, ap, subst, ◌∙◌, arith}
+use Rattle.std.proofs.Common.{◌≡◌, ℕ, suc, ◌+◌, ◌-◌, ◌^◌, ◌<◌, ◌≤◌, Bool, true, false, ◌&&◌, ◌||◌, List, [], ◌∷◌, ◌++◌, length, get_or, Ok, Err, refl, sym, ap, subst, ◌∙◌, arith}
 use Rattle.std.proofs.lemmas.List.{length-append}
-use Rattle.std.proofs.lemmas.List.FromFn.{length-map-range_with_len}
 use Rattle.std.specs.List.{remove}
 use Rattle.std.specs.Prelude.{nat_eq, nat_lt}
 use Rattle.head.specs.Steps.{ask, send_answer, sent, settle_answer, settle_head, settled, is_oldest, handed_back}
@@ -10,9 +9,8 @@ use Rattle.head.specs.declared.head.Head.{Head}
 use Rattle.head.specs.declared.refusal.Refusal.TheVariants as why
 use Rattle.line.proofs.Answers.{asked, ok_is}
 use Rattle.plant.specs.declared.burst.Burst.{Burst}
-use Rattle.receiver.specs.Receiver.{slot_record, reported}
-use Rattle.report.specs.Record.{record_bytes}
-use Rattle.report.specs.declared.record.Record.{Record}
+use Rattle.receiver.proofs.Lengths.{reported-length}
+use Rattle.receiver.specs.Receiver.{reported}
 use Rattle.floor.specs.Dockets.{in_turn, held_for, all_held}
 
 left : (u v : Bool) → (u && v) ≡ true → u ≡ true
@@ -95,19 +93,6 @@ held_settled h d ds report k =
     let c : suc (length ds) ≡ h.out = count h.frame h.out h.started (d ∷ ds) k in
     make h.frame (h.out - 1) h.started ds (right _ (in_turn h.frame ds) (turn h.frame h.out h.started (d ∷ ds) k)) (omega (arith, c))
     (started h.started h.out (omega (arith, c)) (begun h.frame h.out h.started (d ∷ ds) k))
-
--- 18 bytes for each slot
-record-length : (r : Record) → length (record_bytes r) ≡ 18
-unfolding record_bytes
-record-length r = let l = length-map-range_with_len (λ k. slice_index r.message.bytes k) 0 12 in omega arith
-
-reported-length : (frame : ℕ) (bs : List Burst) (marks : List ℕ) (k : ℕ) → length (reported frame bs marks k) ≡ 18 * k
-unfolding reported
-reported-length frame bs marks zero = refl
-reported-length frame bs marks (suc k) =
-    let h = reported-length frame bs marks k in
-    let l = record-length (slot_record frame k bs (slice_index marks k)) in
-    simp length-append (omega arith)
 
 held_taken : (h : Head) (ds : List Docket) (d : Docket) (report : List ℕ) → 0 < length ds → d ≡ get_or ds 0 d → length report ≡ 954
     → all_held h ds ≡ true → all_held (settle_head h d.frame report) (remove ds 0) ≡ true

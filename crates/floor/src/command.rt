@@ -92,6 +92,19 @@ pub enum Command {
     Show,
 }
 
+// What is done to the plant, by name.
+const WORKS: [&str; 9] = [
+    "fibre",
+    "loss",
+    "trip",
+    "power",
+    "signal",
+    "feeder",
+    "feederloss",
+    "cut",
+    "mend",
+];
+
 // The rest of a line.
 #[derive(Drop)]
 struct Rest<'a> {
@@ -150,7 +163,7 @@ impl Rest<'_> {
         match self.words.word(CALENDAR)? {
             "nobody" => Vec::from_slice(self.heap, &[255; 52]).map_err(|_| NoCommand::Memory),
             "places" => self.places(),
-            digits => Ok(keyed::hex::bytes(self.heap, digits)?),
+            digits => self.words.bytes_of(digits),
         }
     }
 
@@ -275,17 +288,9 @@ impl Rest<'_> {
         match name {
             "scenario" => self.scenario(),
             "onu" => Ok(Command::Plug(self.plug()?)),
-            "fibre"
-            | "loss"
-            | "trip"
-            | "power"
-            | "signal"
-            | "feeder"
-            | "feederloss"
-            | "cut"
-            | "mend" => Ok(Command::Work(self.work(name)?)),
             "progress" => self.progress(),
             "show" => Ok(Command::Show),
+            _ if WORKS.contains(&name) => Ok(Command::Work(self.work(name)?)),
             _ => Ok(Command::Drive(self.drive(name)?)),
         }
     }

@@ -1,13 +1,13 @@
 // The line on the desk, with the dockets of the frames that are out.
 ghost use Rattle.std.specs.Prelude.{◌≡◌, ◌≤◌, ◌<◌, ◌↔◌, ◌-◌, [], true, length, vec_capacity, IsSome, IfOk, All, option_map};
-ghost use Rattle.driver.specs.Driver.{Came, Goes, Sent, Went, with_head};
+ghost use Rattle.driver.specs.Driver.{Came, Goes, Same, Sent, Went, with_head};
 ghost use Rattle.head.specs.Steps.{set_up_answer, set_up_head, enter_answer, enter_head, hold_answer, hold_head, release_answer, release_head};
 ghost use Rattle.line.specs.Run.{New, Distinct};
 ghost use Rattle.ports.specs.Lawful.{tree_does};
 ghost use Rattle.ports.specs.Tree.{line_means};
 ghost use Rattle.std.specs.List.{slice_get};
 ghost use Rattle.head.specs.declared.docket.Docket.{Docket};
-ghost use Rattle.floor.specs.Dockets.{all_held, with_docket};
+ghost use Rattle.floor.specs.Dockets.{all_held, newest_answer, with_docket};
 
 use crate::command::Work;
 use crate::work::work;
@@ -131,6 +131,9 @@ impl Desk {
 
     // Tries the newest docket while an older one is out; refused, it is kept.
     pub fn settle_newest(&mut self, marks: &[u8; 53]) -> Option<Refusal>
+        ensures answer { result ≡ newest_answer self.old.dockets.items }
+        ensures same { Same self.old.line self.new.line }
+        ensures dockets { self.new.dockets.items ≡ self.old.dockets.items }
         ensures goes { Goes line_means tree_does self.old.line self.new.line }
     {
         if self.dockets.len() < 2 {

@@ -27,15 +27,19 @@ struct Row<'a> {
 }
 
 impl Row<'_> {
-    fn tiles<W: fmt::Write>(&self, f: &mut fmt::Formatter<W>) -> fmt::Result {
+    // The tile of a slot, counted from 1.
+    fn tile(&self, x: usize) -> Tile {
         let picture = Picture {
             frame: self.frame.frame,
             settings: self.settings,
             kept: Some(self.frame),
         };
+        Tile(picture.slot(x))
+    }
+
+    fn tiles<W: fmt::Write>(&self, f: &mut fmt::Formatter<W>) -> fmt::Result {
         for x in 1..=53 {
-            let tile = Tile(picture.slot(x));
-            write!(f, "{tile}")?;
+            write!(f, "{}", self.tile(x))?;
         }
         Ok(())
     }

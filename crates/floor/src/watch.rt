@@ -1,4 +1,5 @@
 // What is seen of a place, and what changes there.
+use field::delay::Delay;
 use head::head::look::View;
 use report::offset::Offset;
 use report::record::{Light, Record};
@@ -57,36 +58,44 @@ impl fmt::Display for ShownCause {
     }
 }
 
+// The delay of a place, if it has one.
+#[derive(Clone, Copy)]
+struct ShownDelay(Option<Delay>);
+
+impl fmt::Display for ShownDelay {
+    fn fmt<W: fmt::Write>(&self, f: &mut fmt::Formatter<W>) -> fmt::Result {
+        match self.0 {
+            Some(delay) => write!(f, ", delay {}", delay.value()),
+            None => f.write_str(", no delay"),
+        }
+    }
+}
+
+// What ended its service, if anything did.
+#[derive(Clone, Copy)]
+struct ShownReason(Option<Cause>);
+
+impl fmt::Display for ShownReason {
+    fn fmt<W: fmt::Write>(&self, f: &mut fmt::Formatter<W>) -> fmt::Result {
+        match self.0 {
+            Some(cause) => write!(f, ", cause: {}", ShownCause(cause)),
+            None => Ok(()),
+        }
+    }
+}
+
 #[derive(Clone, Copy)]
 pub struct ShownView<'a>(pub &'a View);
 
 impl fmt::Display for ShownView<'_> {
     fn fmt<W: fmt::Write>(&self, f: &mut fmt::Formatter<W>) -> fmt::Result {
-        let View {
-            serial,
-            phase,
-            delay,
-            alarms,
-            cause,
-            failures,
-        } = *self.0;
-        let (serial, phase, alarms) = (serial.value(), ShownPhase(phase), ShownAlarms(alarms));
-        write!(f, "serial {serial:016x} {phase}")?;
-        match delay {
-            Some(delay) => {
-                let bits = delay.value();
-                write!(f, ", delay {bits}")?;
-            }
-            None => f.write_str(", no delay")?,
-        }
-        write!(f, ", alarms{alarms}, failures {failures}")?;
-        match cause {
-            Some(cause) => {
-                let cause = ShownCause(cause);
-                write!(f, ", cause: {cause}")
-            }
-            None => Ok(()),
-        }
+        let view = self.0;
+        let (serial, phase) = (view.serial.value(), ShownPhase(view.phase));
+        let delay = ShownDelay(view.delay);
+        write!(f, "serial {serial:016x} {phase}{delay}")?;
+        let (alarms, failures) = (ShownAlarms(view.alarms), view.failures);
+        let reason = ShownReason(view.cause);
+        write!(f, ", alarms{alarms}, failures {failures}{reason}")
     }
 }
 
@@ -118,28 +127,51 @@ impl Happened {
     }
 }
 
+// The end of a service.
+#[derive(Clone, Copy)]
+struct Ended {
+    cause: ShownCause,
+    alarms: ShownAlarms,
+}
+
+impl fmt::Display for Ended {
+    fn fmt<W: fmt::Write>(&self, f: &mut fmt::Formatter<W>) -> fmt::Result {
+        let Ended { cause, alarms } = self;
+        write!(f, "out of service, alarms{alarms}, cause: {cause}")
+    }
+}
+
+// A delay that was measured.
+#[derive(Clone, Copy)]
+struct Measured {
+    offset: Offset,
+    delay: u64,
+}
+
+impl fmt::Display for Measured {
+    fn fmt<W: fmt::Write>(&self, f: &mut fmt::Formatter<W>) -> fmt::Result {
+        let Measured { offset, delay } = self;
+        write!(f, "measured offset {offset} delay {delay}")
+    }
+}
+
 impl fmt::Display for Happened {
     fn fmt<W: fmt::Write>(&self, f: &mut fmt::Formatter<W>) -> fmt::Result {
         match *self {
-            Happened::Phase(phase) => {
-                let phase = ShownPhase(phase);
-                write!(f, "{phase}")
-            }
-            Happened::Ended { cause, alarms } => {
-                let (cause, alarms) = (ShownCause(cause), ShownAlarms(alarms));
-                write!(f, "out of service, alarms{alarms}, cause: {cause}")
-            }
-            Happened::Measured { offset, delay } => {
-                write!(f, "measured offset {offset} delay {delay}")
-            }
-            Happened::Alarms(alarms) => {
-                let alarms = ShownAlarms(alarms);
-                write!(f, "alarms{alarms}")
-            }
-            Happened::Failures(failures) => write!(
+            Happened::Phase(phase) => write!(f, "{}", ShownPhase(phase)),
+            Happened::Ended { cause, alarms } => write!(
                 f,
-                "round failed with light, failures {failures}"
+                "{}",
+                Ended {
+                    cause: ShownCause(cause),
+                    alarms: ShownAlarms(alarms)
+                }
             ),
+            Happened::Measured { offset, delay } => { write!(f, "{}", Measured { offset, delay }) }
+            Happened::Alarms(alarms) => write!(f, "alarms{}", ShownAlarms(alarms)),
+            Happened::Failures(failures) => {
+                write!(f, "round failed with light, failures {failures}")
+            }
         }
     }
 }

@@ -134,13 +134,16 @@ impl Script {
     }
 }
 
-// Answers standard input to its end; a line like next, if there is one, begins another script.
-fn answer_all(rt: &HostRuntime, script: &mut Script, next: Option<&'static str>) -> io::Result<()> {
+// A script's first line, where several follow each other.
+const NEXT: &str = "## new head";
+
+// Answers standard input to its end.
+fn answer_all(rt: &HostRuntime, script: &mut Script) -> io::Result<()> {
     let heap = rt.alloc();
     let mut out = String::new(heap);
     for line in BufReader::new(heap, rt.reader())?.split(heap, b'\n') {
         let text = String::from_utf8_lossy(heap, line?.as_slice())?;
-        if next == Some(text.as_str()) {
+        if text.as_str() == NEXT {
             mem::replace(script, Script::new()).end();
         } else {
             script.line(heap, text.as_str(), &mut out)?;
@@ -151,10 +154,10 @@ fn answer_all(rt: &HostRuntime, script: &mut Script, next: Option<&'static str>)
     Ok(())
 }
 
-// Answers the calls on standard input; each of several scripts, if they may be, has a head of its own.
-pub fn run(rt: &HostRuntime, next: Option<&'static str>) -> io::Result<()> {
+// Answers the calls on standard input; each of several scripts has a head of its own.
+pub fn run(rt: &HostRuntime) -> io::Result<()> {
     let mut script = Script::new();
-    let outcome = answer_all(rt, &mut script, next);
+    let outcome = answer_all(rt, &mut script);
     script.end();
     outcome
 }

@@ -1,4 +1,4 @@
-// Runs a script over a line of bench ONUs.
+// Runs scripts over a line of bench ONUs. What is stored for it is answered as another implementation does.
 #![tactic(auto)]
 
 use std::io;

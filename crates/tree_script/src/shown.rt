@@ -1,6 +1,6 @@
 // Bursts and ONUs as text.
-ghost use Rattle.std.specs.Prelude.{◌≡◌};
-ghost use Rattle.tree_script.specs.Shown.{moved};
+ghost use Rattle.std.specs.Prelude.{◌≡◌, Some};
+ghost use Rattle.tree_script.specs.Shown.{moved, move_words};
 
 use keyed::hex::Digits;
 use onu::state::{Onu, State};
@@ -39,6 +39,8 @@ impl Move {
 }
 
 impl fmt::Display for Move {
+    ghost output = { λ m. Some (move_words m) };
+
     fn fmt<W: fmt::Write>(&self, f: &mut fmt::Formatter<W>) -> fmt::Result {
         write!(f, "O{} -> O{}", self.old.number(), self.new.number())
     }

@@ -71,12 +71,17 @@ impl<'a> Words<'a> {
         self.number(u64::MAX, "a number of 64 bits")
     }
 
-    // Bytes in hex, a dash for none.
-    pub fn bytes(&mut self) -> Result<Vec<u8>, NoCommand> {
-        match self.word(BYTES)? {
-            "-" => Ok(Vec::new(self.heap)),
-            digits => Ok(hex::bytes(self.heap, digits)?),
+    // The bytes of a word in hex, of a dash none.
+    pub fn bytes_of(&self, word: &str) -> Result<Vec<u8>, NoCommand> {
+        if word == "-" {
+            return Ok(Vec::new(self.heap));
         }
+        Ok(hex::bytes(self.heap, word)?)
+    }
+
+    pub fn bytes(&mut self) -> Result<Vec<u8>, NoCommand> {
+        let word = self.word(BYTES)?;
+        self.bytes_of(word)
     }
 
     // A number of 64 bits in 16 hex digits.
