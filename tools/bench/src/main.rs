@@ -2,7 +2,10 @@
 //! one run, by turns. `bench [ROUNDS [CELLS]]`.
 
 use codec::cell::CELL;
-use codec::random::{noisy_cell, random_cell, random_down, Random, DOWN_KINDS};
+use codec::random::cells::random_cell;
+use codec::random::messages::{random_down, DOWN_KINDS};
+use codec::random::noise::noisy_cell;
+use codec::random::Random;
 use codec::{read_cell, rewrite_cell};
 use std::hint::black_box;
 use std::time::Instant;

@@ -138,7 +138,9 @@ pub fn cell_line(bytes: &[u8]) -> String {
 #[cfg(test)]
 mod tests {
     use super::*;
-    use crate::random::{noisy_cell, random_cell, Random};
+    use crate::random::cells::random_cell;
+    use crate::random::noise::noisy_cell;
+    use crate::random::Random;
 
     #[test]
     fn written_is_read_again() {

@@ -84,7 +84,8 @@ pub fn frame_line(bytes: &[u8]) -> String {
 mod tests {
     use super::*;
     use crate::cell::set_checks;
-    use crate::random::{random_frame, Random};
+    use crate::random::cells::random_frame;
+    use crate::random::Random;
 
     #[test]
     fn written_is_read_again() {

@@ -284,7 +284,9 @@ impl fmt::Display for Up {
 #[cfg(test)]
 mod tests {
     use super::*;
-    use crate::random::{noisy_up, random_up, Random, UP_KINDS};
+    use crate::random::messages::{random_up, UP_KINDS};
+    use crate::random::noise::noisy_up;
+    use crate::random::Random;
 
     #[test]
     fn written_is_read_again() {

@@ -3,7 +3,10 @@
 
 use codec::cell::{set_checks, write_cell, CELL, MESSAGE_AT};
 use codec::hex::Hex;
-use codec::random::*;
+use codec::random::cells::random_cell;
+use codec::random::near::checked_cell;
+use codec::random::noise::noisy_cell;
+use codec::random::Random;
 use codec::{read_cell, rewrite_cell};
 use std::process::ExitCode;
 

@@ -1,6 +1,7 @@
 //! The lines of a scenario.
 
 use codec::hex;
+use head::call::Order;
 use plants::PORTS;
 use std::str::SplitWhitespace;
 
@@ -41,30 +42,12 @@ pub enum Work {
 /// What is asked of the head, the receiver, or of what was heard.
 #[derive(Clone, PartialEq, Eq, Debug)]
 pub enum Call {
-    SetUp {
-        guard: u64,
-        pattern: [u8; 3],
-        first: u64,
-        calendar: Vec<u8>,
-    },
-    Enter {
-        place: u64,
-        serial: u64,
-    },
-    Hold(u64),
-    Release(u64),
-    Look(u64),
-    Run {
-        frames: u64,
-        late: usize,
-    },
+    Order(Order),
+    Run { frames: u64, late: usize },
     Send,
     Settle,
     SettleNewest,
-    Miss {
-        slot: usize,
-        frames: u64,
-    },
+    Miss { slot: usize, frames: u64 },
     Picture(u64),
 }
 
@@ -170,7 +153,6 @@ impl Words<'_> {
                     .collect()
             }
             "" => return Err("nobody, places N, or a calendar in hex"),
-            "-" => return Err("bytes in hex, or - for none"),
             _ => return self.bytes(),
         };
         self.0 = ahead.0;
@@ -178,6 +160,7 @@ impl Words<'_> {
     }
 
     fn command(&mut self) -> Read<Command> {
+        let order = |order: Order| Command::Call(Call::Order(order));
         let name = self.0.next();
         Ok(match name.unwrap_or_default() {
             "scenario" => match self.word() {
@@ -215,19 +198,19 @@ impl Words<'_> {
             "mend" => Command::Plant(Work::Mend(self.port()?)),
             "show" => Command::Show,
             "progress" => Command::Progress(self.on()?),
-            "setup" => Command::Call(Call::SetUp {
+            "setup" => order(Order::SetUp {
                 guard: self.any()?,
                 pattern: self.bytes()?.try_into().map_err(|_| "3 bytes in hex")?,
                 first: self.any()?,
                 calendar: self.calendar()?,
             }),
-            "enter" => Command::Call(Call::Enter {
+            "enter" => order(Order::Enter {
                 place: self.any()?,
                 serial: self.sixteen()?,
             }),
-            "hold" => Command::Call(Call::Hold(self.any()?)),
-            "release" => Command::Call(Call::Release(self.any()?)),
-            "look" => Command::Call(Call::Look(self.any()?)),
+            "hold" => order(Order::Hold(self.any()?)),
+            "release" => order(Order::Release(self.any()?)),
+            "look" => order(Order::Look(self.any()?)),
             "run" => Command::Call(Call::Run {
                 frames: self.frames()?,
                 late: self.late()?,

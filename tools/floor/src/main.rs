@@ -3,7 +3,8 @@
 
 use floor::compare::compare;
 use floor::{draw, Runner};
-use std::io::{self, BufRead, BufWriter, Write};
+use plants::text::each_line;
+use std::io::{self, BufWriter, Write};
 use std::process::ExitCode;
 
 const USAGE: &str = "usage: floor < SCENARIOS
@@ -12,12 +13,7 @@ const USAGE: &str = "usage: floor < SCENARIOS
 
 fn run() -> io::Result<()> {
     let mut runner = Runner::new(BufWriter::with_capacity(1 << 16, io::stdout().lock()));
-    let mut input = io::stdin().lock();
-    let mut line = Vec::new();
-    while input.read_until(b'\n', &mut line)? > 0 {
-        runner.read(&String::from_utf8_lossy(&line))?;
-        line.clear();
-    }
+    each_line(io::stdin().lock(), |line| runner.read(line))?;
     runner.close()?;
     runner.out().flush()
 }

@@ -30,10 +30,15 @@
 //!     length. Anything else is no call.
 //! 11. A line of blanks is blank.
 
+pub mod call;
+pub mod check;
 pub mod compare;
 pub mod head;
 pub mod random;
+pub mod record;
 pub mod replay;
+pub mod row;
+pub mod text;
 pub mod whole;
 
 pub use head::{Head, Refusal};

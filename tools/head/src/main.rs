@@ -6,11 +6,13 @@
 //! runs the self-test.
 
 use codec::random::Random;
+use head::check::check;
 use head::compare::compare;
 use head::random::Maker;
 use head::replay::Session;
 use head::whole;
-use std::io::{self, BufRead, BufWriter, Write};
+use plants::text::each_line;
+use std::io::{self, BufWriter, Write};
 use std::process::ExitCode;
 
 const USAGE: &str = "usage: head < SCRIPT
@@ -21,13 +23,8 @@ const USAGE: &str = "usage: head < SCRIPT
 
 fn replay() -> io::Result<()> {
     let mut session = Session::new();
-    let mut input = io::stdin().lock();
     let mut out = BufWriter::with_capacity(1 << 16, io::stdout().lock());
-    let mut line = Vec::new();
-    while input.read_until(b'\n', &mut line)? > 0 {
-        session.read(&String::from_utf8_lossy(&line), &mut out)?;
-        line.clear();
-    }
+    each_line(io::stdin().lock(), |line| session.read(line, &mut out))?;
     out.flush()
 }
 
@@ -76,7 +73,7 @@ fn main() -> ExitCode {
             .zip(number(frames))
             .map(|(draw, frames)| whole::script(draw, Some(frames), out)),
         ["compare", script, answers] => return held_against(script, answers, out),
-        ["check"] => return whole::check(out),
+        ["check"] => return check(out),
         _ => None,
     };
     match done {

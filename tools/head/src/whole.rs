@@ -2,56 +2,25 @@
 //! script of a run has what the receiver said, so that it can be replayed
 //! without the tree.
 
-use crate::head::{Phase, Slot, FRAME_LIMIT, MOST_OUT, NOBODY, ROUND};
-use crate::replay::{Call, Session};
+mod overlaps;
+mod trouble;
+
+use crate::call::{Call, Order};
+use crate::head::{FRAME_LIMIT, MOST_OUT, NOBODY, ROUND};
+use crate::replay::Session;
+use crate::row::Phase;
 use crate::{FRAME_SLOTS, PLACES};
 use codec::random::Random;
 use codec::{CELL, FRAME};
-use plants::receiver::{offset, RECORD};
-use plants::{
-    report, BenchOnu, Burst, BurstList, Event, Line, State, FRAME_SLOTS as SLOTS, REPORT,
-    SLOT_BITS, TARGET,
-};
+use overlaps::Overlaps;
+use plants::receiver::RECORD;
+use plants::{report, BenchOnu, Burst, BurstList, Line, FRAME_SLOTS as SLOTS, SLOT_BITS, TARGET};
 use std::collections::{BTreeMap, VecDeque};
 use std::io::{self, Write};
-use std::process::ExitCode;
 
 /// The least round trip that can be brought up, and the greatest.
 const LEAST_TRIP: u64 = TARGET - 32_000;
 const LAST_TRIP: u64 = TARGET;
-
-/// Looks for bursts of which one bit time lies in both.
-struct Overlaps {
-    /// Starts and ends of those that may still meet another.
-    near: BTreeMap<u64, u64>,
-    length: u64,
-    found: u64,
-}
-
-impl Overlaps {
-    fn add(&mut self, burst: &Burst) {
-        let (start, end) = (burst.start, burst.start + self.length);
-        let before = self.near.range(..=start).next_back();
-        let after = self.near.range(start..).next();
-        if before.is_some_and(|(_, &other)| other > start)
-            || after.is_some_and(|(&other, _)| other < end)
-        {
-            self.found += 1;
-        }
-        self.near.insert(start, end);
-    }
-
-    /// Forgets those that end before any burst of this slot could start.
-    fn pass(&mut self, slot: u64) {
-        let now = SLOT_BITS * slot;
-        while let Some((&start, &end)) = self.near.first_key_value() {
-            if end > now {
-                break;
-            }
-            self.near.remove(&start);
-        }
-    }
-}
 
 struct Port {
     serial: u64,
@@ -86,7 +55,8 @@ struct Run<W> {
 }
 
 impl<W: Write> Run<W> {
-    fn say(&mut self, call: Call) -> io::Result<()> {
+    fn say(&mut self, call: impl Into<Call>) -> io::Result<()> {
+        let call = call.into();
         writeln!(self.out, "{call}")?;
         self.session.run(&call, &mut io::sink())
     }
@@ -96,73 +66,6 @@ impl<W: Write> Run<W> {
         rows.filter(|row| row.in_service()).count() as u64
     }
 
-    /// Somewhat more than the least round trip, within the guard.
-    fn drift(&mut self, port: usize) {
-        let range = if self.lawful {
-            u64::from(self.session.head().guard()) / 4
-        } else {
-            self.random.one_of(&[3, 20, 2_000])
-        };
-        let trip = self.ports[port].least + self.random.below(range + 1);
-        if let Some(onu) = self.line.onu(port) {
-            onu.set_trip(trip as u32);
-        }
-    }
-
-    /// Something that happens in the plant between two cells.
-    fn event(&mut self) {
-        let port = self.random.between(0, self.ports.len() - 1);
-        let r = &mut self.random;
-        let pattern = match r.below(10) {
-            0..=3 => 1 << r.below(64),
-            4..=6 => r.next_u64() & r.next_u64() & r.next_u64(),
-            7 => r.next_u64(),
-            8 => u64::MAX,
-            _ => 0,
-        };
-        let event = match self.random.below(10) {
-            0 => Event::SignalLost,
-            1 if self.random.flag() => Event::PowerLost,
-            2..=5 => {
-                self.drift(port);
-                return;
-            }
-            6 if self.random.once_in(4) => {
-                self.line.set_feeder_loss(pattern);
-                return;
-            }
-            7 | 8 => {
-                self.line.set_loss(port, pattern);
-                return;
-            }
-            9 if self.random.once_in(8) => {
-                // Another one with the same number, in the same place.
-                let Port { serial, least } = self.ports[port];
-                self.line.put(port, BenchOnu::new(serial, least as u32));
-                return;
-            }
-            _ => Event::SignalBack,
-        };
-        if let Some(onu) = self.line.onu(port) {
-            onu.take(&event);
-        }
-    }
-
-    /// Light comes back where it is missing, and losses end.
-    fn repair(&mut self) {
-        self.line.set_feeder_loss(0);
-        for port in 0..self.ports.len() {
-            if self.random.flag() {
-                self.line.set_loss(port, 0);
-            }
-            if let Some(onu) = self.line.onu(port) {
-                if onu.onu().state == State::O1 {
-                    onu.take(&Event::SignalBack);
-                }
-            }
-        }
-    }
-
     fn operate(&mut self) -> io::Result<()> {
         let place = self.random.one_of(&self.places);
         let phase = self.session.head().row(place as usize).map(|row| row.phase);
@@ -170,10 +73,10 @@ impl<W: Write> Run<W> {
             None => {
                 let port = self.random.between(0, self.ports.len() - 1);
                 let serial = self.ports[port].serial;
-                self.say(Call::Enter { place, serial })
+                self.say(Order::Enter { place, serial })
             }
-            Some(Phase::Held) => self.say(Call::Release(place)),
-            Some(_) => self.say(Call::Hold(place)),
+            Some(Phase::Held) => self.say(Order::Release(place)),
+            Some(_) => self.say(Order::Hold(place)),
         }
     }
 
@@ -189,7 +92,7 @@ impl<W: Write> Run<W> {
         }
         if self.random.once_in(20) {
             let place = self.random.one_of(&self.places);
-            self.say(Call::Look(place))?;
+            self.say(Order::Look(place))?;
         }
         if self.random.once_in(self.dumps) {
             self.say(Call::Dump)?;
@@ -351,7 +254,7 @@ pub fn script(draw: u64, frames: Option<u64>, out: impl Write) -> io::Result<()>
         out,
     };
     let pattern = run.random.array();
-    run.say(Call::SetUp {
+    run.say(Order::SetUp {
         guard,
         pattern,
         first,
@@ -362,7 +265,7 @@ pub fn script(draw: u64, frames: Option<u64>, out: impl Write) -> io::Result<()>
             Some(port) => port.serial,
             None => run.random.next_u64(),
         };
-        run.say(Call::Enter { place, serial })?;
+        run.say(Order::Enter { place, serial })?;
     }
     for _ in 0..frames {
         run.frame()?;
@@ -371,7 +274,7 @@ pub fn script(draw: u64, frames: Option<u64>, out: impl Write) -> io::Result<()>
         run.settle()?;
     }
     for place in 0..PLACES as u64 {
-        run.say(Call::Look(place))?;
+        run.say(Order::Look(place))?;
     }
     run.say(Call::Dump)?;
     run.out.flush()?;
@@ -392,81 +295,4 @@ pub fn script(draw: u64, frames: Option<u64>, out: impl Write) -> io::Result<()>
         return Err(io::Error::other("bursts overlap"));
     }
     Ok(())
-}
-
-// The self-test.
-
-/// The offset of the ONU's burst in frame 1,039, and the frame whose settling
-/// brought it into service, if any of 2,200 did.
-fn one_onu() -> (Option<i128>, Option<u64>) {
-    let mut session = Session::new();
-    let mut line = Line::new();
-    line.put(0, BenchOnu::new(1, 20_000));
-    let enter = Call::Enter {
-        place: 0,
-        serial: 1,
-    };
-    session.run(&enter, &mut io::sink()).expect("no output");
-    let mut measured = None;
-    for _ in 0..2_200 {
-        let mut buffer = [0; FRAME];
-        let frame = session.send(&mut buffer).expect("sent");
-        let mut list = BurstList::new(10_000);
-        for (i, cell) in buffer.chunks_exact(CELL).enumerate() {
-            line.hear(cell, SLOTS * frame + 27 * i as u64, &mut list)
-                .expect("heard");
-        }
-        if frame == 1_039 {
-            measured = list.bursts().first().map(offset);
-        }
-        let report: [u8; REPORT] =
-            report(frame, list.bursts(), &[0; FRAME_SLOTS]).expect("53 marks");
-        session.settle(&report).expect("settled");
-        if session.head().row(0).is_some_and(|row| row.in_service()) {
-            return (measured, Some(frame));
-        }
-    }
-    (measured, None)
-}
-
-/// The self-test: figures that are known.
-pub fn check(mut out: impl Write) -> ExitCode {
-    let head = crate::Head::new();
-    let judged = |frame: u64| match head.slot(frame, FRAME_SLOTS) {
-        Slot::Window {
-            place,
-            judged: true,
-        } => Some(place),
-        _ => None,
-    };
-    let turn = |frame: u64| match head.slot(frame, 1) {
-        Slot::Turn(place) => Some(place),
-        _ => None,
-    };
-    let (measured, served) = one_onu();
-    let figures = [
-        (
-            "windows",
-            [15, 31, 1_023, 1_039].map(judged) == [Some(0), Some(1), Some(63), Some(0)],
-        ),
-        (
-            "turns",
-            [14, 16, 68].map(turn) == [Some(14), Some(15), Some(0)],
-        ),
-        ("offset -15392 in frame 1039", measured == Some(-15_392)),
-        ("in service on settling 2063", served == Some(2_063)),
-    ];
-    let mut wrong = 0;
-    for (name, holds) in figures {
-        let said = if holds { "ok" } else { "wrong" };
-        wrong += u32::from(!holds);
-        if writeln!(out, "{name}: {said}").is_err() {
-            return ExitCode::FAILURE;
-        }
-    }
-    if wrong == 0 && out.flush().is_ok() {
-        ExitCode::SUCCESS
-    } else {
-        ExitCode::FAILURE
-    }
 }

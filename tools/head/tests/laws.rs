@@ -3,9 +3,11 @@
 use codec::cell::{GRANTS, GROUPS, MESSAGE_AT, MESSAGE_CHECK};
 use codec::random::Random;
 use codec::{CELL, FRAME};
+use head::call::{Call, Order};
 use head::head::{Head, Slot};
 use head::random::Maker;
-use head::replay::{row_line, Call, Session};
+use head::replay::Session;
+use head::text::row_line;
 use head::whole;
 use head::{FRAME_SLOTS, PLACES};
 use plants::receiver::RECORD;
@@ -91,7 +93,7 @@ fn independent(script: &str, place: usize, random: &mut Random) {
                 }
                 assert_eq!(one.settle(report), two.settle(&other));
             }
-            Call::Look(at) if *at == place as u64 => {}
+            Call::Order(Order::Look(at)) if *at == place as u64 => {}
             Call::Dump => {
                 for other in (0..PLACES).filter(|&other| other != place) {
                     assert_eq!(
@@ -123,7 +125,9 @@ fn places_are_independent() {
         let used: Vec<usize> = script
             .lines()
             .filter_map(|line| match Call::read(line) {
-                Ok(Call::Enter { place, .. }) if place < PLACES as u64 => Some(place as usize),
+                Ok(Call::Order(Order::Enter { place, .. })) if place < PLACES as u64 => {
+                    Some(place as usize)
+                }
                 _ => None,
             })
             .collect();

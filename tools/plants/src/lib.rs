@@ -66,6 +66,7 @@ pub mod receiver;
 pub mod reception;
 pub mod script;
 pub mod table;
+pub mod text;
 
 pub use bench::{BenchOnu, Timer, FIRST_TIMER, LAST_TRIP, SECOND_TIMER};
 pub use line::{Line, PORTS};

@@ -65,7 +65,9 @@ impl Reception {
 mod tests {
     use super::*;
     use codec::cell::check_place;
-    use codec::random::{noisy_cell, random_cell, Random};
+    use codec::random::cells::random_cell;
+    use codec::random::noise::noisy_cell;
+    use codec::random::Random;
 
     #[test]
     fn sound_cells_arrive_whole() {

@@ -282,11 +282,14 @@ impl Onu {
         .write()
     }
 
+    /// Without a PON_ID its source is 64, which the codec holds for unsound here.
     fn no_message(&self) -> [u8; MESSAGE] {
-        Up {
-            source: self.pon_id.unwrap_or(64),
+        let sound = Up {
+            source: 0,
             body: UpBody::NoMessage,
-        }
-        .write()
+        };
+        let mut message = sound.write();
+        message[0] = self.pon_id.unwrap_or(NO_PON_ID);
+        message
     }
 }

@@ -1,6 +1,7 @@
 //! The state table, line by line, with what each step keeps and forgets.
 
-use codec::random::{random_down, Random, DOWN_KINDS};
+use codec::random::messages::{random_down, DOWN_KINDS};
+use codec::random::Random;
 use codec::{Access, Down, Target};
 use plants::{Answer, Event, Onu, State};
 use State::*;
