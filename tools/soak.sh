@@ -1,6 +1,6 @@
 #!/bin/sh
 # A long run of `floor`: 64 ONUs under losses, drift, power cycles and cuts: soak.sh [FRAMES [DRAW]]
-# Prints the summary, and every minute how much memory the program holds. Ten million frames take about half an hour.
+# Prints the summary, and every minute how much memory the program holds. Ten million frames take 5 to 10 minutes.
 set -eu
 root=$(cd "$(dirname "$0")/.." && pwd)
 work=$(mktemp -d)
