@@ -1,5 +1,7 @@
 // Bytes as hex digits, two for each byte, and back.
-ghost use Rattle.std.specs.Prelude.{◌≡◌, ◌+◌, ◌*◌, ◌/◌, ◌%◌, ◌<◌, ◌++◌, Some, List, ℕ, length, option_map, string_bytes, IfSome, MatchOption, MatchResult, OnOk};
+ghost use Rattle.std.specs.Prelude.{◌≡◌, ◌+◌, ◌*◌, ◌/◌, ◌%◌, ◌<◌, ◌≤◌, ◌++◌, Some, List, ℕ, length, take, option_map, string_bytes, IfSome, MatchOption, MatchResult, OnOk};
+ghost use Rattle.std.specs.Char.{digit_char};
+ghost use Rattle.std.specs.Str.{IsUtf8};
 ghost use Rattle.std.specs.Simd.{first_chunks};
 ghost use Rattle.keyed.specs.Fields.{hexed};
 ghost use Rattle.keyed.specs.Hex.{digit, pair, exactly, BytesAndDigitsAgree, word_bytes, words_bytes};
@@ -48,6 +50,31 @@ impl<T: Drop> From<AllocFailed<T>> for NotHex {
     }
 }
 
+// The lowercase digit of a number below sixteen.
+fn lowercase(value: u8) -> u8
+    requires { value < 16 }
+    ensures { result ≡ digit_char value }
+{
+    match value {
+        0..=9 => b'0' + value,
+        _ => b'a' + (value - 10),
+    }
+}
+
+// The digits of at most 32 bytes, at the front. One text of many digits is written sooner than many of few.
+fn digits_of(bytes: &[u8]) -> [u8; 64]
+    requires { length bytes.now ≤ 32 }
+    ensures digits { take (2 * length bytes.now) result ≡ hexed bytes.now }
+    ensures utf8 { IsUtf8 (hexed bytes.now) }
+{
+    let mut text = [0; 64];
+    for (place, byte) in bytes.iter().enumerate() {
+        text[2 * place] = lowercase(byte / 16);
+        text[2 * place + 1] = lowercase(byte % 16);
+    }
+    text
+}
+
 // Bytes that print as two lowercase digits each.
 #[derive(Clone, Copy)]
 pub struct Digits<'a>(pub &'a [u8]);
@@ -56,8 +83,12 @@ impl fmt::Display for Digits<'_> {
     ghost output = { λ digits. Some (hexed digits.0.now) };
 
     fn fmt<W: fmt::Write>(&self, f: &mut fmt::Formatter<W>) -> fmt::Result {
-        for &byte in self.0 {
-            write!(f, "{byte:02x}")?;
+        let mut rest = self.0;
+        while !rest.is_empty() {
+            let (few, later) = rest.split_at(rest.len().min(32));
+            let text = digits_of(few);
+            f.write_str(str::from_utf8(&text[..2 * few.len()]).unwrap())?;
+            rest = later;
         }
         Ok(())
     }

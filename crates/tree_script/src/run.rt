@@ -199,7 +199,8 @@ pub fn run(rt: &HostRuntime) -> io::Result<()> {
         let text = String::from_utf8_lossy(heap, line?.as_slice())?;
         script.line(number, text.as_str())?;
         rt.print(script.out.as_str())?;
-        script.out.clear();
+        // one long answer's memory is not kept for the rest of the script
+        script.out = String::new(heap);
     }
     println!(rt; "{}", script.totals)
 }
